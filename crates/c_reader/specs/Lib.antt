@@ -1,0 +1,4 @@
+pub mod Form
+pub mod Laws
+pub mod Meaning
+pub mod Reading

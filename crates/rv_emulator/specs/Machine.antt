@@ -1,0 +1,148 @@
+-- What the machine does with an image and an input (RISC-V unprivileged specification, RV32I base integer
+-- instruction set), with this project's memory map and environment calls.
+use Rattle.std.specs.Prelude.{ℕ, zero, suc, ◌+◌, ◌-◌, ◌*◌, ◌/◌, ◌%◌, ◌^◌, ℤ, pos, List, [], ◌∷◌, ◌++◌, ◌==◌, nat_lt, int_lt, if◌then◌else◌, Option, Some, None, slice_get, slice_index_or, slice_set, replicate}
+use Rattle.std.specs.Int.{w32, cast_signed, cast_unsigned, int_wrapping_add}
+use Rattle.std.specs.Ordering.{int_eq}
+use Rattle.sat_base.specs.Clip.{low16}
+use Rattle.sat_base.specs.Observation.{Observation, End, Stop, Going, Fault}
+use Rattle.sat_base.specs.declared.machine_fault.MachineFault.{MachineFault}
+use Rattle.sat_base.specs.declared.machine_fault.MachineFault.TheVariants.{Word, Fetch, Jump, Call}
+use Rattle.rv_emulator.specs.declared.instruction.Instr.{Instr}
+use Rattle.rv_emulator.specs.declared.instruction.Instr.TheVariants.{Lui, Addi, Add, Blt, Bge, Jal, Ecall}
+use Rattle.rv_emulator.specs.declared.image.Image.{Image}
+use Rattle.rv_emulator.specs.declared.state.MachineState.{MachineState}
+use Rattle.rv_emulator.specs.declared.state.Ending.{Ending}
+use Rattle.rv_emulator.specs.declared.state.Ending.TheVariants.{Ended, Stopped, Faulted}
+use Rattle.rv_emulator.specs.Instruction.{decoded}
+
+-- ---- the memory map
+
+-- where the code begins
+abbrev pub code_start : ℕ
+code_start = 0x00010000
+
+-- before the first instruction all registers are 0
+abbrev pub first_state : Image → List ℤ → MachineState
+first_state image input =
+    record { registers = replicate 32 (pos 0); pc = code_start; memory = image.memory; input = input }
+
+-- the word at a pc, or none where the pc lies outside the code
+abbrev pub fetched : List ℕ → ℕ → Option ℕ
+fetched code pc = if nat_lt pc code_start then None else slice_get code ((pc - code_start) / 4)
+
+-- ---- registers and the program counter
+
+abbrev pub register : MachineState → ℕ → ℤ
+register s number = slice_index_or s.registers number (pos 0)
+
+-- x0 stays 0 whatever is written to it
+abbrev pub registers_with : List ℤ → ℕ → ℤ → List ℤ
+registers_with registers rd value = if rd == 0 then registers else slice_set registers rd value
+
+abbrev pub next_pc : ℕ → ℕ
+next_pc pc = (pc + 4) % 2 ^ 32
+
+abbrev pub target_pc : ℕ → ℤ → ℕ
+target_pc pc imm = (pc + cast_unsigned w32 imm) % 2 ^ 32
+
+-- the weighted count, of which x25 has the upper 32 bits and x24 the lower
+abbrev pub count_of : MachineState → ℕ
+count_of s = cast_unsigned w32 (register s 25) * 2 ^ 32 + cast_unsigned w32 (register s 24)
+
+-- ---- one instruction
+
+-- what an instruction does: it goes on, it goes on and a sample is written, or the run is over
+pub data Effect : Type 0 where
+  Goes : MachineState → Effect
+  Writes : (sample : ℤ) → MachineState → Effect
+  Ends : Ending → Effect
+
+-- a register gets a value, and the next instruction follows
+abbrev pub sets : MachineState → ℕ → ℤ → Effect
+sets s rd value = Goes (record s { registers = registers_with s.registers rd value; pc = next_pc s.pc })
+
+abbrev pub goes_on : MachineState → Effect
+goes_on s = Goes (record s { pc = next_pc s.pc })
+
+abbrev pub faults : MachineState → MachineFault → Effect
+faults s kind = Ends (Faulted s.pc kind)
+
+-- a jump, which the pc of the jump and these registers make; its target must be a multiple of 4
+abbrev pub jumps : MachineState → List ℤ → ℤ → Effect
+jumps s registers imm =
+    if target_pc s.pc imm % 4 == 0 then Goes (record s { registers = registers; pc = target_pc s.pc imm }) else faults s Jump
+
+-- an environment call by the number in x17: 3 writes the low 16 bits of x10, 4 ends the run
+abbrev pub calls : MachineState → ℤ → Effect
+calls s number =
+    if int_eq number (pos 3) then Writes (low16 (register s 10)) (record s { pc = next_pc s.pc }) else
+    (if int_eq number (pos 4) then Ends (Ended (register s 27) (count_of s)) else faults s Call)
+
+abbrev pub effect_of : Instr → MachineState → Effect
+effect_of (Lui rd imm) s = sets s rd (cast_signed w32 (imm * 2 ^ 12))
+effect_of (Addi rd rs1 imm) s = sets s rd (int_wrapping_add w32 (register s rs1) imm)
+effect_of (Add rd rs1 rs2) s = sets s rd (int_wrapping_add w32 (register s rs1) (register s rs2))
+effect_of (Blt rs1 rs2 imm) s = if int_lt (register s rs1) (register s rs2) then jumps s s.registers imm else goes_on s
+effect_of (Bge rs1 rs2 imm) s = if int_lt (register s rs1) (register s rs2) then goes_on s else jumps s s.registers imm
+effect_of (Jal rd imm) s = jumps s (registers_with s.registers rd (cast_signed w32 (next_pc s.pc))) imm
+effect_of Ecall s = calls s (register s 17)
+
+-- what happens at a word that was fetched, and at a word that is or is not in the table
+abbrev pub carried_out : Option Instr → MachineState → Effect
+carried_out None s = faults s Word
+carried_out (Some instr) s = effect_of instr s
+
+abbrev pub executed : Option ℕ → MachineState → Effect
+executed None s = faults s Fetch
+executed (Some word) s = carried_out (decoded word) s
+
+-- one step of the machine over this code
+abbrev pub stepped : List ℕ → MachineState → Effect
+stepped code s = executed (fetched code s.pc) s
+
+-- ---- runs
+
+-- the machine runs on, or its run is over
+pub data Situation : Type 0 where
+  Running : MachineState → Situation
+  Over : Ending → Situation
+
+-- the situation, and what was written so far
+pub record Moment : Type 0 where
+  pub situation : Situation
+  pub output : List ℤ
+
+abbrev pub moment : Situation → List ℤ → Moment
+moment situation output = record { situation = situation; output = output }
+
+abbrev pub after_effect : Effect → List ℤ → Moment
+after_effect (Goes s) output = moment (Running s) output
+after_effect (Writes sample s) output = moment (Running s) (output ++ sample ∷ [])
+after_effect (Ends ending) output = moment (Over ending) output
+
+-- one instruction on, unless the run is over
+abbrev pub moved_on : List ℕ → Situation → List ℤ → Moment
+moved_on code (Running s) output = after_effect (stepped code s) output
+moved_on code (Over ending) output = moment (Over ending) output
+
+abbrev pub next_moment : List ℕ → Moment → Moment
+next_moment code at = moved_on code at.situation at.output
+
+-- at most n instructions on; the one that ends, stops or faults counts as one of them
+abbrev pub moment_after : List ℕ → ℕ → Moment → Moment
+moment_after code zero at = at
+moment_after code (suc n) at = moment_after code n (next_moment code at)
+
+-- what is observed at a moment
+abbrev pub observation : Situation → List ℤ → Observation
+observation (Running s) output = Going output
+observation (Over (Ended overflow count)) output = End output overflow count
+observation (Over (Stopped site)) output = Stop site output
+observation (Over (Faulted pc kind)) output = Fault pc kind output
+
+abbrev pub observation_of : Moment → Observation
+observation_of at = observation at.situation at.output
+
+-- what is observed of an image on an input after at most n instructions
+abbrev pub machine_observed : Image → List ℤ → ℕ → Observation
+machine_observed image input n = observation_of (moment_after image.code n (moment (Running (first_state image input)) []))

@@ -1,0 +1,71 @@
+// The machine, which runs an image.
+
+ghost use Rattle.std.specs.Prelude.{◌≡◌, ◌-◌, ◌≤◌, ◌<◌, List, IfOk};
+ghost use Rattle.rv_emulator.specs.Pauses.{IsRun, loaded};
+
+use crate::image::Image;
+use crate::pause::Pause;
+use crate::state::{Ending, MachineState};
+use crate::step::{CODE_START, Step, carry_out};
+use sat_base::Memory;
+use sqlite_items::Items;
+use std::alloc::Global;
+use std::marker::Model;
+
+/// A machine with an image in it, at some moment of its run.
+#[derive(Debug, Drop)]
+pub struct Machine {
+    code: Items<u32>,
+    state: MachineState,
+    ending: Option<Ending>,
+}
+
+impl Model for Machine {
+    ghost use Rattle.rv_emulator.specs.Pauses.{Emulation, situation_of};
+
+    ghost Value = { Emulation };
+
+    ghost view = { λ m. record { code = m.code; situation = situation_of m.state m.ending } };
+}
+
+impl Machine {
+    /// A machine before its first instruction: all registers are 0, the pc is at the first word of the code,
+    /// and the data memory has the image's first content.
+    pub fn load(alloc: Global, image: &Image, input: &[i16]) -> Result<Machine, Memory>
+        ensures { IfOk result (λ machine. machine ≡ loaded image.now input.now) }
+    {
+        Ok(Machine {
+            code: Items::from_slice(alloc, image.code.as_slice())?,
+            state: MachineState {
+                registers: [0; 32],
+                pc: CODE_START,
+                memory: Items::from_slice(alloc, image.memory.as_slice())?,
+                input: Items::from_slice(alloc, input)?,
+            },
+            ending: None,
+        })
+    }
+
+    /// Runs the machine until it writes a sample, its run is over, or `left` instructions are carried out.
+    /// Each instruction lowers `left` by one. A machine whose run is over takes no step, and answers the same
+    /// again.
+    pub fn run(&mut self, left: &mut u64) -> Pause
+        ensures { IsRun self.old self.new left.old left.new result }
+    {
+        if let Some(ending) = self.ending {
+            return ending.into();
+        }
+        while *left > 0 {
+            *left -= 1;
+            match carry_out(self.code.as_slice(), &mut self.state) {
+                Step::Goes => {}
+                Step::Writes(sample) => return Pause::Wrote(sample),
+                Step::Ends(ending) => {
+                    self.ending = Some(ending);
+                    return ending.into();
+                }
+            }
+        }
+        Pause::Budget
+    }
+}

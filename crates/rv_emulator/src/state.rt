@@ -1,0 +1,24 @@
+// The state of the machine.
+
+use sat_base::MachineFault;
+use sqlite_items::Items;
+
+/// The registers x0 to x31, the program counter, the data memory, and the samples that are left.
+#[derive(Debug, Drop)]
+pub struct MachineState {
+    pub registers: [i32; 32],
+    pub pc: u32,
+    pub memory: Items<u8>,
+    pub input: Items<i16>,
+}
+
+/// How a run was over.
+#[derive(Clone, Copy, Debug, PartialEq, Eq)]
+pub enum Ending {
+    /// It ended, with the value of Overflow and the weighted count.
+    Ended { overflow: i32, count: u64 },
+    /// It stopped at a site.
+    Stopped { site: u32 },
+    /// The instruction at this pc faulted.
+    Faulted { pc: u32, kind: MachineFault },
+}

@@ -1,0 +1,5 @@
+int main(void)
+{
+  sample_out(add(32767, 1));
+  return 0;
+}

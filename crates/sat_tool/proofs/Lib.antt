@@ -1,0 +1,5 @@
+pub mod Compiled
+pub mod Headline
+pub mod Leads
+pub mod Serving
+pub mod Simulation

@@ -1,0 +1,11 @@
+pub mod Accepted
+pub mod Command
+pub mod Emission
+pub mod Headline
+pub mod ImageBytes
+pub mod Lines
+pub mod Outcomes
+pub mod Refusals
+pub mod Run
+pub mod Sites
+pub mod Words

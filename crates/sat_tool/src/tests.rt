@@ -1,0 +1,121 @@
+// Whole runs of the program over a store and a sink in memory.
+
+use crate::compile::compile;
+use crate::satc::satc;
+use rv_emulator::{Machine, Pause};
+use sqlite_items::Items;
+use std::alloc::Global;
+use std::process::Abort;
+use std::test::Fail;
+use store_io::{CalmSink, CalmStore, Entry};
+
+/// A source that writes a sum which is clipped.
+const CLIP: &str = "int main(void)\n{\n  sample_out(add(32767, 1));\n  return 0;\n}\n";
+
+/// A source that writes nothing.
+const NOTHING: &str = "int main(void){return 0;}";
+
+// What a run on these words leaves in the sink, over a store that has this source as `a.c`.
+fn told(alloc: Global, source: &[u8], words: &[&str]) -> Result<(u8, CalmSink, CalmStore), Fail> {
+    let file = Entry {
+        name: Items::from_slice(alloc, b"a.c")?,
+        bytes: Items::from_slice(alloc, source)?,
+    };
+    let mut store = CalmStore::new(alloc, &[file])?;
+    let mut out = CalmSink::new(alloc);
+    let mut given = Vec::new(alloc);
+    for word in words {
+        given.push(String::from_str(alloc, *word)?)?;
+    }
+    let status = satc(alloc, &given, &mut store, &mut out);
+    Ok((status, out, store))
+}
+
+#[test]
+fn builds_and_refuses(rt: HostRuntime) -> Result<(), Fail> {
+    let alloc = rt.alloc();
+    let build: &[&str] = &["build", "a.c", "a.img"];
+    for (source, words, status, text) in [
+        (CLIP, build, 0, "sites 1\n"),
+        (NOTHING, build, 0, "sites 0\n"),
+        (
+            "int main(void){sample_out(7);return 0;}",
+            build,
+            0,
+            "sites 0\n",
+        ),
+        ("", build, 1, "error 1:1 not yet\n"),
+        ("int main(void){return 1;}", build, 1, "error 1:1 not yet\n"),
+        (CLIP, &["build", "b.c", "a.img"], 4, "missing b.c\n"),
+        (CLIP, &[], 2, "usage: satc build SRC IMG\n"),
+        (CLIP, &["--help"], 2, "usage: satc build SRC IMG\n"),
+        (CLIP, &["build"], 2, "usage: satc build SRC IMG\n"),
+        (CLIP, &["build", "a.c"], 2, "usage: satc build SRC IMG\n"),
+        (
+            CLIP,
+            &["build", "", "a.img"],
+            2,
+            "usage: satc build SRC IMG\n",
+        ),
+        (
+            CLIP,
+            &["build", "a.c", "-o"],
+            2,
+            "usage: satc build SRC IMG\n",
+        ),
+        (
+            CLIP,
+            &["build", "a.c", "a.img", "x"],
+            2,
+            "usage: satc build SRC IMG\n",
+        ),
+    ] {
+        let (answer, out, store) = told(alloc, source.as_bytes(), words)?;
+        assert_eq!(rt; answer, status, "{source:?}");
+        assert_eq!(rt; out.bytes(), text.as_bytes(), "{source:?}");
+        assert_eq!(rt; store.file("a.img").is_some(), status == 0, "{source:?}");
+    }
+    Ok(())
+}
+
+// The image of a source, loaded.
+fn machine(alloc: Global, source: &[u8]) -> Result<Machine, Fail> {
+    let built = match compile(alloc, source) {
+        Ok(built) => built,
+        Err(refusal) => return Err(Fail::from(refusal)),
+    };
+    Ok(Machine::load(alloc, &built.image, &[])?)
+}
+
+#[test]
+fn images_run_as_their_sources(rt: HostRuntime) -> Result<(), Fail> {
+    let mut machine = machine(rt.alloc(), CLIP.as_bytes())?;
+    let mut left = 100;
+    assert_eq!(rt; machine.run(&mut left), Pause::Wrote(32767));
+    let ended = Pause::Ended {
+        overflow: 1,
+        count: 1,
+    };
+    assert_eq!(rt; machine.run(&mut left), ended);
+    Ok(())
+}
+
+#[test]
+fn an_empty_main_ends_at_once(rt: HostRuntime) -> Result<(), Fail> {
+    let mut machine = machine(rt.alloc(), NOTHING.as_bytes())?;
+    let ended = Pause::Ended {
+        overflow: 0,
+        count: 0,
+    };
+    assert_eq!(rt; machine.run(&mut 100), ended);
+    Ok(())
+}
+
+#[test]
+fn a_text_past_the_limit_is_refused(rt: HostRuntime) -> Result<(), Fail> {
+    let spaces = vec![in rt.alloc(); b' '; 1_048_577]?;
+    let (status, out, _store) = told(rt.alloc(), &spaces, &["build", "a.c", "a.img"])?;
+    assert_eq!(rt; status, 1);
+    assert_eq!(rt; out.bytes(), b"error 1:1 not yet\n".as_slice());
+    Ok(())
+}

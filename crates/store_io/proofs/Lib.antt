@@ -1,0 +1,4 @@
+pub mod Begun
+pub mod Counted
+pub mod Held
+pub mod Turns
