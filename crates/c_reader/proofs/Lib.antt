@@ -1,5 +1,9 @@
+pub mod Boxes
 pub mod Layouts
 pub mod Numerals
 pub mod Pieces
+pub mod Places
 pub mod Sources
+pub mod Spots
+pub mod Statements
 pub mod Trees

@@ -1,15 +1,13 @@
 -- The first piece of a text: what is read is there, and what is there is read.
-use Rattle.std.proofs.Common.{◌≡◌, ◌≢◌, ℕ, ◌+◌, ◌<◌, max, Bool, true, false, cond, ◌&&◌, not, eqb, List, [], ◌∷◌, ◌++◌, length, take, drop, All, Option, Some, None, Decides, refl, sym, ap, ◌∙◌, inl, inr, arith}
+use Rattle.std.proofs.Common.{◌≡◌, ℕ, ◌+◌, ◌<◌, max, Bool, true, false, cond, ◌&&◌, not, eqb, List, [], ◌∷◌, ◌++◌, length, take, drop, All, Option, Some, None, Decides, refl, sym, ap, ◌∙◌, inl, inr, arith}
 use Rattle.std.specs.List.{list_all, prefix_len}
-use Rattle.std.specs.Str.{bytes_eq}
-use Rattle.std.proofs.lemmas.Bool.{and_parts, and_from, cases_Bool, cond-true, cond-false, eqb-true, ne_eqb, both_ways, false_from_ne_true, true≢false}
+use Rattle.std.proofs.lemmas.Bool.{and_parts, and_from, cases_Bool, cond-true, cond-false, eqb-true, ne_eqb, both_ways, true≢false}
 use Rattle.std.proofs.lemmas.Bool.Decides.{nat_tests, Decides-by_and}
 use Rattle.std.proofs.lemmas.List.{append-nil, take_at, drop_at, take-append-drop, nil_from_length, length-append}
-use Rattle.std.proofs.lemmas.Option.{none-some, some_pair_parts, cond_some}
-use Rattle.std.proofs.lemmas.Slice.Eq.{bytes_eq-Decides}
+use Rattle.std.proofs.lemmas.Option.{none-some, some_pair_parts}
 use Rattle.std.proofs.Math.Numerals.{one-add}
 use Rattle.c_reader.specs.Form.{IsWhite, IsWordByte}
-use Rattle.c_reader.specs.Reading.{◌>>=◌, is_white, is_word_byte, skip_white, piece_len, next_piece, after_piece}
+use Rattle.c_reader.specs.Reading.{◌>>=◌, is_white, is_word_byte, skip_white, piece_len, first_piece}
 
 -- the value of a step that did not fail
 pub bind_some : {A B : Type 0} (o : Option A) (f : A → Option B) (y : B) → (o >>= f) ≡ Some y → (x : A) × (o ≡ Some x) × (f x ≡ Some y)
@@ -41,7 +39,7 @@ prefix_len-starts : (p : ℕ → Bool) (xs : List ℕ) → starts p xs ≡ false
 prefix_len-starts p [] e = refl
 prefix_len-starts p (b ∷ bs) e = cond-false (p b) (1 + prefix_len p bs) 0 e
 
-prefix_len-front : (p : ℕ → Bool) (xs ys : List ℕ) → list_all p xs ≡ true → starts p ys ≡ false → prefix_len p (xs ++ ys) ≡ length xs
+pub prefix_len-front : (p : ℕ → Bool) (xs ys : List ℕ) → list_all p xs ≡ true → starts p ys ≡ false → prefix_len p (xs ++ ys) ≡ length xs
 prefix_len-front p [] ys h e = prefix_len-starts p ys e
 prefix_len-front p (b ∷ bs) ys h e =
     let both = and_parts (p b) (list_all p bs) h in
@@ -95,18 +93,18 @@ length_piece [] e = absurd (true≢false (sym e))
 length_piece (b ∷ bs) e = omega arith
 
 -- the piece after white space is read
-pub next_piece-append : (space piece rest : List ℕ) → list_all is_white space ≡ true → is_piece piece ≡ true → (starts is_word_byte piece ≡ true → starts is_word_byte rest ≡ false) → next_piece (space ++ (piece ++ rest)) ≡ Some (piece, rest)
-unfolding next_piece
-next_piece-append space piece rest h e apart =
+pub first_piece-append : (space piece rest : List ℕ) → list_all is_white space ≡ true → is_piece piece ≡ true → (starts is_word_byte piece ≡ true → starts is_word_byte rest ≡ false) → first_piece (space ++ (piece ++ rest)) ≡ Some (piece, rest)
+unfolding first_piece
+first_piece-append space piece rest h e apart =
     let skipped : skip_white (space ++ (piece ++ rest)) ≡ piece ++ rest = skip_white-append space (piece ++ rest) h (piece_is_not_white piece rest e) in
     let filled : eqb (length (piece ++ rest)) 0 ≡ false = ne_eqb (length (piece ++ rest)) 0 (λ zero. omega (arith, length-append piece rest, length_piece piece e)) in
     let len = piece_len-append piece rest e apart in
     rw (skipped, filled, len, take_at piece rest (length piece) refl, drop_at piece rest (length piece) refl) refl
 
 -- nothing is read of white space
-pub next_piece-white : (space : List ℕ) → list_all is_white space ≡ true → next_piece space ≡ None
-unfolding next_piece
-next_piece-white space h =
+pub first_piece-white : (space : List ℕ) → list_all is_white space ≡ true → first_piece space ≡ None
+unfolding first_piece
+first_piece-white space h =
     let skipped : skip_white space ≡ [] = ap skip_white (sym (append-nil space)) ∙ skip_white-append space [] h refl in
     rw skipped refl
 
@@ -136,9 +134,9 @@ piece_ends (b ∷ bs) e =
           absurd (both_ways (is_word_byte b) mark (rw len at e))
     ]
 
-pub next_piece_some : (text piece rest : List ℕ) → next_piece text ≡ Some (piece, rest) → IsFirstPiece text piece rest
-unfolding next_piece
-next_piece_some text piece rest e =
+pub first_piece_some : (text piece rest : List ℕ) → first_piece text ≡ Some (piece, rest) → IsFirstPiece text piece rest
+unfolding first_piece
+first_piece_some text piece rest e =
     let t = skip_white text in
     let parts = skip_white_parts text in
     elim (cases_Bool (eqb (length t) 0)) [
@@ -153,9 +151,9 @@ next_piece_some text piece rest e =
           }
     ]
 
-pub next_piece_none : (text : List ℕ) → next_piece text ≡ None → list_all is_white text ≡ true
-unfolding next_piece
-next_piece_none text e =
+pub first_piece_none : (text : List ℕ) → first_piece text ≡ None → list_all is_white text ≡ true
+unfolding first_piece
+first_piece_none text e =
     let t = skip_white text in
     let parts = skip_white_parts text in
     elim (cases_Bool (eqb (length t) 0)) [
@@ -164,21 +162,3 @@ next_piece_none text e =
           ap (list_all is_white) (parts.2 ∙ ap (λ (x : List ℕ). parts.0 ++ x) nothing ∙ append-nil parts.0) ∙ parts.1
       | inr some ↦ absurd (none-some (take (piece_len t) t, drop (piece_len t) t) (sym e ∙ cond-false _ None (Some (take (piece_len t) t, drop (piece_len t) t)) some))
     ]
-
--- ---- a piece that is wanted
-
-pub after_piece_some : (piece text rest : List ℕ) → after_piece piece text ≡ Some rest → next_piece text ≡ Some (piece, rest)
-unfolding after_piece
-after_piece_some piece text rest e =
-    let b = bind_some (next_piece text) (λ p. cond (bytes_eq p.0 piece) (Some p.1) None) rest e in
-    let kept = cond_some (bytes_eq b.0.0 piece) b.0.1 rest b.2 in
-    let same : b.0.0 ≡ piece = (bytes_eq-Decides b.0.0 piece).0 kept.0 in
-    b.1 ∙ ap (λ (x : List ℕ). Some (x, b.0.1)) same ∙ ap (λ (x : List ℕ). Some (piece, x)) kept.1
-
-pub after_piece-found : (piece text rest : List ℕ) → next_piece text ≡ Some (piece, rest) → after_piece piece text ≡ Some rest
-unfolding after_piece
-after_piece-found piece text rest e = rw (e, (bytes_eq-Decides piece piece).1 refl) refl
-
-pub after_piece-other : (piece text found rest : List ℕ) → next_piece text ≡ Some (found, rest) → found ≢ piece → after_piece piece text ≡ None
-unfolding after_piece
-after_piece-other piece text found rest e other = rw (e, false_from_ne_true (bytes_eq found piece) (λ same. other ((bytes_eq-Decides found piece).0 same))) refl

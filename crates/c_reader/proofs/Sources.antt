@@ -1,25 +1,29 @@
 -- Sources: what is read of a text is spelled by it, and what it spells is read.
-use Rattle.std.proofs.Common.{◌≡◌, ℕ, ◌+◌, ◌≤◌, ◌<◌, true, List, [], ◌∷◌, ◌++◌, length, take, drop, All, Option, Some, None, ℤ, pos, codes, refl, sym, ap, subst, ◌∙◌, append_assoc, inl, inr, arith}
+use Rattle.std.proofs.Common.{◌≡◌, ℕ, ◌+◌, ◌<◌, ◌≤◌, true, leb, List, [], ◌∷◌, ◌++◌, length, take, drop, All, Option, Some, None, ℤ, pos, refl, sym, ap, subst, ◌∙◌, inl, inr, arith}
 use Rattle.std.specs.Char.{is_ascii_digit}
-use Rattle.std.specs.List.{list_all, flat_map, AllByRecursion}
-use Rattle.std.proofs.lemmas.Bool.{and_parts, and_from, cases_lt}
+use Rattle.std.specs.List.{list_all, flat_map}
+use Rattle.std.proofs.lemmas.Bool.{and_parts, and_from, cases_lt, leb-true, le-leb}
 use Rattle.std.proofs.lemmas.Bool.Decides.{nat_tests}
-use Rattle.std.proofs.lemmas.List.{append-nil, take_all, length-take}
-use Rattle.std.proofs.lemmas.List.Elements.{All-nil, All-cons, All-head}
-use Rattle.std.proofs.lemmas.Option.{same_Some}
+use Rattle.std.proofs.lemmas.List.{append-nil, take_all, length-take, length-drop, length-append}
+use Rattle.std.proofs.lemmas.List.Elements.{All-nil, All-cons, All-head, All-tail}
+use Rattle.std.proofs.lemmas.List.Folds.{list_all-append}
+use Rattle.std.proofs.lemmas.Option.{none-some, cond_some, same_Some}
 use Rattle.sat_base.specs.Position.{position_after}
-use Rattle.sat_base.specs.declared.position.Pos.{Pos}
-use Rattle.sat_base.specs.declared.limits.TheConstants.{SOURCE_BYTES}
+use Rattle.sat_base.specs.declared.limits.TheConstants.{SOURCE_BYTES, TOKENS}
 use Rattle.c_reader.specs.declared.first.First.{First}
-use Rattle.c_reader.specs.declared.first.FirstExpr.{FirstExpr}
-use Rattle.c_reader.specs.declared.first.FirstExpr.TheVariants.{Int, Add}
-use Rattle.c_reader.specs.Form.{IsOperand, number, expression_pieces, statement_pieces, opening_pieces, closing_pieces, pieces_of, laid_out, text_before, IsLayout, IsPlaced, Spells}
+use Rattle.c_reader.specs.declared.first.FirstExpr.{FirstExpr, Int, Add', Sub', more_of-FirstExpr as boxed, end_of-FirstExpr as end}
+use Rattle.c_reader.specs.declared.first.FirstRefusal.{FirstRefusal}
+use Rattle.c_reader.specs.declared.first.FirstRefusal.TheVariants as refusals
+use Rattle.c_reader.specs.Form.{IsOperand, number, expression_pieces, statement_pieces, opening_pieces, closing_pieces, pieces_of, laid_out, text_before, depth_of, IsLayout, IsPlaced, ArePlaced, Spells}
 use Rattle.c_reader.specs.Laws.{SpellsAtMostOne, FrontSpellsTheSame}
-use Rattle.c_reader.specs.Reading.{◌>>=◌, is_word_byte, next_piece, after_pieces, front_before, statement_at, outs_or_none, at_end, outs_in}
+use Rattle.c_reader.specs.Reading.{is_word_byte, Spot, Found, start_of, next_piece, after_pieces, statements_at, at_end, outs_in, Refuses}
+use Rattle.c_reader.proofs.Layouts.{Separates, spot_at, next_piece-spot_at-end, layout_from_pieces}
 use Rattle.c_reader.proofs.Numerals.{numeral_parts, is_numeral-decimal}
-use Rattle.c_reader.proofs.Pieces.{bind_some, is_piece, next_piece_none}
-use Rattle.c_reader.proofs.Layouts.{Separates, after_pieces-laid_out, all_pieces-laid_out, front_before-laid_out, layout_from_pieces}
-use Rattle.c_reader.proofs.Trees.{bound, after_parts, after_joined, HasOperands, placed, head_pieces, tail_pieces, statement_at_some, statement_at-found, statement_at-closing}
+use Rattle.c_reader.proofs.Pieces.{bind_some, is_piece, first_piece_none}
+use Rattle.c_reader.proofs.Places.{drop-past, after_pieces-spot_at}
+use Rattle.c_reader.proofs.Spots.{next_piece_none, after_pieces_tok, after_joined}
+use Rattle.c_reader.proofs.Statements.{IsShallow, statements_at_some, statements_at-spot_at}
+use Rattle.c_reader.proofs.Trees.{HasOperands}
 
 abbrev tree : List FirstExpr → First
 tree outs = record { outs = outs }
@@ -27,38 +31,31 @@ tree outs = record { outs = outs }
 -- ---- what is read has its pieces
 
 -- the text is read as these pieces, and they are those of a tree but for places
-pub record IsRead (text : List ℕ) (outs : List FirstExpr) : Type 0 where
-  pub few : length outs ≤ 1
-  pub operands : AllByRecursion HasOperands outs
-  pub rest : List ℕ
-  pub pieces : after_pieces (pieces_of (tree outs)) text ≡ Some rest
-  pub ended : next_piece rest ≡ None
+record IsSource (text : List ℕ) (outs : List FirstExpr) : Type 0 where
+  operands : All HasOperands outs
+  shallow : All IsShallow outs
+  rest : Spot
+  pieces : after_pieces (pieces_of (tree outs)) (start_of text) ≡ Some rest
+  few : rest.tok ≤ TOKENS
+  ended : next_piece rest ≡ None
 
-at_end_some : {A : Type 0} (x y : A) (o : Option (List ℕ × List ℕ)) → at_end x o ≡ Some y → (o ≡ None) × (x ≡ y)
-at_end_some x y (Some p) e = absurd cc
-at_end_some x y None e = (refl, same_Some x y e)
+at_end_some : {A : Type 0} (x y : A) (count : ℕ) (o : Option (Found × Spot)) → at_end x count o ≡ Some y → (o ≡ None) × (count ≤ TOKENS) × (x ≡ y)
+at_end_some x y count (Some p) e = absurd cc
+at_end_some x y count None e = let kept = cond_some (leb count TOKENS) x y e in (refl, leb-true count TOKENS kept.0, kept.1)
 
-outs_in_some : (text : List ℕ) (outs : List FirstExpr) → outs_in text ≡ Some outs → IsRead text outs
+outs_in_some : (text : List ℕ) (outs : List FirstExpr) → outs_in text ≡ Some outs → IsSource text outs
 unfolding outs_in
 outs_in_some text outs read =
-    let a = bind_some (after_pieces opening_pieces text) _ outs read in
-    by_statement a.0 a.1 (statement_at text a.0) refl a.2 where
-      by_statement : (start : List ℕ) → after_pieces opening_pieces text ≡ Some start → (o : Option (FirstExpr × List ℕ)) → statement_at text start ≡ o
-          → (after_pieces closing_pieces (outs_or_none start o).1 >>= λ rest. at_end (outs_or_none start o).0 (next_piece rest)) ≡ Some outs → IsRead text outs
-      by_statement start opened (Some p) found made =
-          let b = bind_some (after_pieces closing_pieces p.1) _ outs made in
-          let both = at_end_some (p.0 ∷ []) outs (next_piece b.0) b.2 in
-          let is = statement_at_some text start p.0 p.1 found in
-          let inner = after_joined (statement_pieces p.0 ++ []) closing_pieces start p.1 b.0 (ap (λ (ps : List (List ℕ)). after_pieces ps start) (append-nil (statement_pieces p.0)) ∙ is.1) b.1 in
-          let all = after_joined opening_pieces (flat_map statement_pieces (p.0 ∷ []) ++ closing_pieces) text start b.0 opened inner in
-          subst (IsRead text) both.1 (record { few = omega arith; operands = (is.0, tt); rest = b.0; pieces = all; ended = both.0 })
-      by_statement start opened None found made =
-          let b = bind_some (after_pieces closing_pieces start) _ outs made in
-          let both = at_end_some [] outs (next_piece b.0) b.2 in
-          let all = after_joined opening_pieces closing_pieces text start b.0 opened b.1 in
-          subst (IsRead text) both.1 (record { few = omega arith; operands = tt; rest = b.0; pieces = all; ended = both.0 })
+    let a = bind_some (after_pieces opening_pieces (start_of text)) _ outs read in
+    let b = bind_some (statements_at (length a.0.rest) a.0) _ outs a.2 in
+    let c = bind_some (after_pieces closing_pieces b.0.1) _ outs b.2 in
+    let end = at_end_some b.0.0 outs c.0.tok (next_piece c.0) c.2 in
+    let are = statements_at_some (length a.0.rest) a.0 b.0.1 b.0.0 b.1 in
+    let inner = after_joined (flat_map statement_pieces b.0.0) closing_pieces a.0 b.0.1 c.0 are.pieces c.1 in
+    let all = after_joined opening_pieces (flat_map statement_pieces b.0.0 ++ closing_pieces) (start_of text) a.0 c.0 a.1 inner in
+    subst (IsSource text) end.2 (record { operands = are.operands; shallow = are.shallow; rest = c.0; pieces = all; few = end.1; ended = end.0 })
 
--- ---- what is spelled is read
+-- ---- the pieces of a tree are pieces
 
 digit_is_word : (b : ℕ) → is_ascii_digit b ≡ true → is_word_byte b ≡ true
 digit_is_word b e = grind (arith, nat_tests)
@@ -80,90 +77,170 @@ is_piece-number n operand =
     let parts = numeral_parts (number (pos operand.0)) (is_numeral-decimal operand.0 (omega (arith, operand.2))) in
     ap (λ (z : ℤ). is_piece (number z)) operand.1 ∙ digits_are_piece (number (pos operand.0)) parts.0 parts.1
 
--- the pieces before the expression
-abbrev front_pieces : List (List ℕ)
-front_pieces = opening_pieces ++ head_pieces
+abbrev ArePieces : List (List ℕ) → Type 0
+ArePieces ps = list_all is_piece ps ≡ true
 
--- the pieces after it
-abbrev back_pieces : List (List ℕ)
-back_pieces = tail_pieces ++ closing_pieces
+joined : (ps qs : List (List ℕ)) → ArePieces ps → ArePieces qs → ArePieces (ps ++ qs)
+joined ps qs p q = list_all-append is_piece ps qs ∙ and_from (list_all is_piece ps) (list_all is_piece qs) p q
 
-outs_in-empty : (spaces : List (List ℕ)) → Separates spaces (pieces_of (tree [])) → outs_in (laid_out spaces (pieces_of (tree []))) ≡ Some []
+expression_formed : (e : FirstExpr) → HasOperands e → ArePieces (expression_pieces e)
+expression_formed (Int n) operand = rw (is_piece-number n operand) refl
+expression_formed (Add' tok at _ (boxed left _) _ (boxed right _)) both =
+    joined (expression_pieces left) _ (expression_formed left both.0) (joined (expression_pieces right) _ (expression_formed right both.1) refl)
+expression_formed (Sub' tok at _ (boxed left _) _ (boxed right _)) both =
+    joined (expression_pieces left) _ (expression_formed left both.0) (joined (expression_pieces right) _ (expression_formed right both.1) refl)
+
+statements_formed : (es : List FirstExpr) → All HasOperands es → ArePieces (flat_map statement_pieces es)
+statements_formed [] operands = refl
+statements_formed (e ∷ es) operands =
+    joined (expression_pieces e ++ _) (flat_map statement_pieces es)
+    (joined (expression_pieces e) _ (expression_formed e (All-head HasOperands e es operands)) refl)
+    (statements_formed es (All-tail HasOperands e es operands))
+
+separates : (text : List ℕ) (outs : List FirstExpr) (spaces : List (List ℕ)) → IsLayout text spaces (pieces_of (tree outs)) → All HasOperands outs → Separates spaces (pieces_of (tree outs))
+separates text outs spaces layout operands = record {
+  number = layout.number;
+  white = layout.white;
+  apart = layout.apart;
+  formed = joined (flat_map statement_pieces outs) closing_pieces (statements_formed outs operands) refl;
+}
+
+-- ---- what is spelled is read
+
+HasOperands-placed : (spaces pieces : List (List ℕ)) (e : FirstExpr) (k : ℕ) → IsPlaced spaces pieces k e → HasOperands e
+HasOperands-placed spaces pieces (Int n) k placed = placed
+HasOperands-placed spaces pieces (Add' tok at _ (boxed left _) _ (boxed right _)) k placed =
+    (HasOperands-placed spaces pieces left (k + 2) placed.1, HasOperands-placed spaces pieces right (k + 2 + length (expression_pieces left) + 1) placed.2)
+HasOperands-placed spaces pieces (Sub' tok at _ (boxed left _) _ (boxed right _)) k placed =
+    (HasOperands-placed spaces pieces left (k + 2) placed.1, HasOperands-placed spaces pieces right (k + 2 + length (expression_pieces left) + 1) placed.2)
+
+HaveOperands-placed : (spaces pieces : List (List ℕ)) (es : List FirstExpr) (k : ℕ) → ArePlaced spaces pieces k es → All HasOperands es
+HaveOperands-placed spaces pieces [] k placed = All-nil HasOperands
+HaveOperands-placed spaces pieces (e ∷ es) k placed =
+    All-cons HasOperands e es (HasOperands-placed spaces pieces e (k + 2) placed.0) (HaveOperands-placed spaces pieces es (k + length (statement_pieces e)) placed.1)
+
+length-is_piece : (p : List ℕ) → is_piece p ≡ true → 0 < length p
+length-is_piece [] e = absurd cc
+length-is_piece (b ∷ bs) e = omega arith
+
+-- a layout has a byte for each piece
+length-laid_out : (spaces pieces : List (List ℕ)) → length pieces ≤ length spaces → ArePieces pieces → length pieces ≤ length (laid_out spaces pieces)
+length-laid_out spaces [] room formed = omega arith
+length-laid_out [] (p ∷ ps) room formed = absurd (omega arith)
+length-laid_out (space ∷ spaces) (p ∷ ps) room formed =
+    let parts = and_parts (is_piece p) (list_all is_piece ps) formed in
+    omega (arith, length-append space (p ++ laid_out spaces ps), length-append p (laid_out spaces ps), length-is_piece p parts.0, length-laid_out spaces ps (omega arith) parts.1)
+
+length-statements : (es : List FirstExpr) → length es ≤ length (flat_map statement_pieces es)
+length-statements [] = omega arith
+length-statements (e ∷ es) = omega (arith, length-append (statement_pieces e) (flat_map statement_pieces es), length-statements es)
+
+spelled_is_read : (text : List ℕ) (outs : List FirstExpr) (spaces : List (List ℕ)) → length (pieces_of (tree outs)) ≤ TOKENS → All IsShallow outs → IsLayout text spaces (pieces_of (tree outs))
+    → ArePlaced spaces (pieces_of (tree outs)) (length opening_pieces) outs → outs_in text ≡ Some outs
 unfolding outs_in
-outs_in-empty spaces s =
-    let text = laid_out spaces (pieces_of (tree [])) in
-    let all = all_pieces-laid_out (pieces_of (tree [])) spaces s in
-    let parts = after_parts opening_pieces closing_pieces text all.0 all.1 in
-    bound (after_pieces opening_pieces text) parts.0 _ parts.1
-    ∙ ap (λ o. after_pieces closing_pieces (outs_or_none parts.0 o).1 >>= λ r. at_end (outs_or_none parts.0 o).0 (next_piece r)) (statement_at-closing text parts.0 all.0 parts.2)
-    ∙ bound (after_pieces closing_pieces parts.0) all.0 _ parts.2
-    ∙ ap (at_end []) all.2
-
-outs_in-one : (e : FirstExpr) (q : List ℕ) (qs spaces : List (List ℕ)) → expression_pieces e ++ back_pieces ≡ q ∷ qs → HasOperands e → Separates spaces (front_pieces ++ q ∷ qs)
-    → outs_in (laid_out spaces (front_pieces ++ q ∷ qs)) ≡ Some (placed (position_after (text_before 8 spaces (front_pieces ++ q ∷ qs))) e ∷ [])
-unfolding outs_in
-outs_in-one e q qs spaces same operands s =
-    let text = laid_out spaces (front_pieces ++ q ∷ qs) in
-    let opened = laid_out (drop 8 spaces) (q ∷ qs) in
-    let front = after_pieces-laid_out front_pieces (q ∷ qs) spaces s in
-    let head = after_parts opening_pieces head_pieces text opened front.0 in
-    let back = all_pieces-laid_out (q ∷ qs) (drop 8 spaces) front.1 in
-    let regrouped : (expression_pieces e ++ tail_pieces) ++ closing_pieces ≡ q ∷ qs = append_assoc (expression_pieces e) tail_pieces closing_pieces ∙ same in
-    let read : after_pieces ((expression_pieces e ++ tail_pieces) ++ closing_pieces) opened ≡ Some back.0 = ap (λ (ps : List (List ℕ)). after_pieces ps opened) regrouped ∙ back.1 in
-    let parts = after_parts (expression_pieces e ++ tail_pieces) closing_pieces opened back.0 read in
-    let written = placed (position_after (front_before text opened)) e in
-    let statement = statement_at-found text head.0 opened e parts.0 operands head.2 parts.1 in
-    bound (after_pieces opening_pieces text) head.0 _ head.1
-    ∙ ap (λ o. after_pieces closing_pieces (outs_or_none head.0 o).1 >>= λ r. at_end (outs_or_none head.0 o).0 (next_piece r)) statement
-    ∙ bound (after_pieces closing_pieces parts.0) back.0 _ parts.2
-    ∙ ap (at_end (written ∷ [])) back.2
-    ∙ ap (λ (x : List ℕ). Some (placed (position_after x) e ∷ [])) (front_before-laid_out front_pieces q qs spaces s)
-
-separates : (text : List ℕ) (spaces pieces : List (List ℕ)) → IsLayout text spaces pieces → list_all is_piece pieces ≡ true → Separates spaces pieces
-separates text spaces pieces layout formed = record { number = layout.number; white = layout.white; apart = layout.apart; formed = formed }
-
--- what a text spells is read of it
-spelled_is_read : (text : List ℕ) (outs : List FirstExpr) (spaces : List (List ℕ)) → length outs ≤ 1 → IsLayout text spaces (pieces_of (tree outs)) → All (IsPlaced spaces (pieces_of (tree outs))) outs → outs_in text ≡ Some outs
-spelled_is_read text [] spaces few layout places = ap outs_in layout.whole ∙ outs_in-empty spaces (separates text spaces (pieces_of (tree [])) layout refl)
-spelled_is_read text (Int n ∷ []) spaces few layout places =
-    let pieces = pieces_of (tree (Int n ∷ [])) in
-    let operand : IsOperand n = All-head (IsPlaced spaces pieces) (Int n) [] places in
-    let formed : list_all is_piece pieces ≡ true = rw (is_piece-number n operand) refl in
-    ap outs_in layout.whole ∙ outs_in-one (Int n) (number n) back_pieces spaces refl operand (separates text spaces pieces layout formed)
-spelled_is_read text (Add tok at left right ∷ []) spaces few layout places =
-    let pieces = pieces_of (tree (Add tok at left right ∷ [])) in
-    let is = All-head (IsPlaced spaces pieces) (Add tok at left right) [] places in
-    let formed : list_all is_piece pieces ≡ true = rw (is_piece-number left is.0, is_piece-number right is.1) refl in
-    let token : tok ≡ 8 = is.2 in
-    let place : position_after (text_before 8 spaces pieces) ≡ at = ap (λ (k : ℕ). position_after (text_before k spaces pieces)) (sym token) ∙ sym is.3 in
-    ap outs_in layout.whole
-    ∙ outs_in-one (Add tok at left right) (codes "add") (codes "(" ∷ number left ∷ codes "," ∷ number right ∷ codes ")" ∷ back_pieces) spaces refl (is.0, is.1) (separates text spaces pieces layout formed)
-    ∙ ap (λ (k : ℕ). Some (Add k (position_after (text_before 8 spaces pieces)) left right ∷ [])) (sym token)
-    ∙ ap (λ (place : Pos). Some (Add tok place left right ∷ [])) place
-spelled_is_read text (e ∷ f ∷ outs) spaces few layout places = absurd (omega arith)
+spelled_is_read text outs spaces few shallow layout placed =
+    let pieces = pieces_of (tree outs) in
+    let at = spot_at spaces pieces in
+    let statements = flat_map statement_pieces outs in
+    let operands = HaveOperands-placed spaces pieces outs (length opening_pieces) placed in
+    let s = separates text outs spaces layout operands in
+    let start : start_of text ≡ at 0 = ap start_of layout.whole in
+    let opened : after_pieces opening_pieces (at 0) ≡ Some (at 6) = after_pieces-spot_at spaces pieces s opening_pieces 0 (statements ++ closing_pieces) refl in
+    let formed : ArePieces (statements ++ closing_pieces) = joined statements closing_pieces (statements_formed outs operands) refl in
+    let bytes : length (statements ++ closing_pieces) ≤ length (at 6).rest = length-laid_out (drop 6 spaces) (statements ++ closing_pieces) (omega (arith, s.number, length-drop 6 spaces)) formed in
+    let room : length outs ≤ length (at 6).rest = omega (arith, bytes, length-append statements closing_pieces, length-statements outs) in
+    let read = statements_at-spot_at spaces pieces s (length (at 6).rest) outs 6 refl room shallow placed in
+    let past = 6 + length statements in
+    let closed : after_pieces closing_pieces (at past) ≡ Some (at (past + 4)) =
+    after_pieces-spot_at spaces pieces s closing_pieces past [] (drop-past statements 6 pieces closing_pieces refl ∙ sym (append-nil closing_pieces)) in
+    let all : past + 4 ≡ length pieces = omega (arith, length-append statements closing_pieces) in
+    rw (start, opened, read, closed, all, next_piece-spot_at-end spaces pieces s, le-leb (length pieces) TOKENS few) refl
 
 pub complete : (text : List ℕ) (first : First) → Spells first text → outs_in text ≡ Some first.outs
-complete text first s = spelled_is_read text first.outs s.spaces s.few s.layout s.placed
+complete text first s = spelled_is_read text first.outs s.spaces s.few_pieces s.shallow s.layout s.placed
 
 -- ---- what is read is spelled
 
+-- the expression with the numbers and the places of its tokens, from this number on
+abbrev placed_at : List (List ℕ) → List (List ℕ) → ℕ → FirstExpr → FirstExpr
+placed_at spaces pieces k (Int n) = Int n
+placed_at spaces pieces k (Add' tok at shape (boxed left _) other (boxed right _)) =
+    Add' k (position_after (text_before k spaces pieces)) shape (boxed (placed_at spaces pieces (k + 2) left) end) other (boxed (placed_at spaces pieces (k + 2 + length (expression_pieces left) + 1) right) end)
+placed_at spaces pieces k (Sub' tok at shape (boxed left _) other (boxed right _)) =
+    Sub' k (position_after (text_before k spaces pieces)) shape (boxed (placed_at spaces pieces (k + 2) left) end) other (boxed (placed_at spaces pieces (k + 2 + length (expression_pieces left) + 1) right) end)
+
+abbrev all_placed_at : List (List ℕ) → List (List ℕ) → ℕ → List FirstExpr → List FirstExpr
+all_placed_at spaces pieces k [] = []
+all_placed_at spaces pieces k (e ∷ es) = placed_at spaces pieces (k + 2) e ∷ all_placed_at spaces pieces (k + length (statement_pieces e)) es
+
+-- it has the same pieces and the same depth
+record IsLike (e f : FirstExpr) : Type 0 where
+  pieces : expression_pieces e ≡ expression_pieces f
+  depth : depth_of e ≡ depth_of f
+
+placed_at-like : (spaces pieces : List (List ℕ)) (e : FirstExpr) (k : ℕ) → IsLike (placed_at spaces pieces k e) e
+placed_at-like spaces pieces (Int n) k = record { pieces = refl; depth = refl }
+placed_at-like spaces pieces (Add' tok at _ (boxed left _) _ (boxed right _)) k =
+    let l = placed_at-like spaces pieces left (k + 2) in
+    let r = placed_at-like spaces pieces right (k + 2 + length (expression_pieces left) + 1) in
+    record { pieces = rw (l.pieces, r.pieces) refl; depth = rw (l.depth, r.depth) refl }
+placed_at-like spaces pieces (Sub' tok at _ (boxed left _) _ (boxed right _)) k =
+    let l = placed_at-like spaces pieces left (k + 2) in
+    let r = placed_at-like spaces pieces right (k + 2 + length (expression_pieces left) + 1) in
+    record { pieces = rw (l.pieces, r.pieces) refl; depth = rw (l.depth, r.depth) refl }
+
+IsPlaced-placed_at : (spaces pieces : List (List ℕ)) (e : FirstExpr) (k : ℕ) → HasOperands e → IsPlaced spaces pieces k (placed_at spaces pieces k e)
+IsPlaced-placed_at spaces pieces (Int n) k operands = operands
+IsPlaced-placed_at spaces pieces (Add' tok at _ (boxed left _) _ (boxed right _)) k operands =
+    let l = IsPlaced-placed_at spaces pieces left (k + 2) operands.0 in
+    let r = IsPlaced-placed_at spaces pieces right (k + 2 + length (expression_pieces left) + 1) operands.1 in
+    ((refl, refl), l, rw (placed_at-like spaces pieces left (k + 2)).pieces r)
+IsPlaced-placed_at spaces pieces (Sub' tok at _ (boxed left _) _ (boxed right _)) k operands =
+    let l = IsPlaced-placed_at spaces pieces left (k + 2) operands.0 in
+    let r = IsPlaced-placed_at spaces pieces right (k + 2 + length (expression_pieces left) + 1) operands.1 in
+    ((refl, refl), l, rw (placed_at-like spaces pieces left (k + 2)).pieces r)
+
+ArePlaced-all_placed_at : (spaces pieces : List (List ℕ)) (es : List FirstExpr) (k : ℕ) → All HasOperands es → ArePlaced spaces pieces k (all_placed_at spaces pieces k es)
+ArePlaced-all_placed_at spaces pieces [] k operands = tt
+ArePlaced-all_placed_at spaces pieces (e ∷ es) k operands =
+    let others = ArePlaced-all_placed_at spaces pieces es (k + length (statement_pieces e)) (All-tail HasOperands e es operands) in
+    (IsPlaced-placed_at spaces pieces e (k + 2) (All-head HasOperands e es operands), rw (placed_at-like spaces pieces e (k + 2)).pieces others)
+
+statement_pieces-all_placed_at : (spaces pieces : List (List ℕ)) (es : List FirstExpr) (k : ℕ) → flat_map statement_pieces (all_placed_at spaces pieces k es) ≡ flat_map statement_pieces es
+statement_pieces-all_placed_at spaces pieces [] k = refl
+statement_pieces-all_placed_at spaces pieces (e ∷ es) k =
+    rw ((placed_at-like spaces pieces e (k + 2)).pieces, statement_pieces-all_placed_at spaces pieces es (k + length (statement_pieces e))) refl
+
+AreShallow-all_placed_at : (spaces pieces : List (List ℕ)) (es : List FirstExpr) (k : ℕ) → All IsShallow es → All IsShallow (all_placed_at spaces pieces k es)
+AreShallow-all_placed_at spaces pieces [] k shallow = All-nil IsShallow
+AreShallow-all_placed_at spaces pieces (e ∷ es) k shallow =
+    let first : IsShallow (placed_at spaces pieces (k + 2) e) = omega (arith, (placed_at-like spaces pieces e (k + 2)).depth, All-head IsShallow e es shallow) in
+    All-cons IsShallow _ _ first (AreShallow-all_placed_at spaces pieces es (k + length (statement_pieces e)) (All-tail IsShallow e es shallow))
+
 pub sound : (text : List ℕ) (outs : List FirstExpr) → length text ≤ SOURCE_BYTES → outs_in text ≡ Some outs → Spells (tree outs) text
-sound text outs short read = by_outs outs (outs_in_some text outs read) read where
-  by_outs : (xs : List FirstExpr) → IsRead text xs → outs_in text ≡ Some xs → Spells (tree xs) text
-  by_outs [] r given =
-      let layout = layout_from_pieces (pieces_of (tree [])) text r.rest r.pieces (next_piece_none r.rest r.ended) in
-      record { short = short; few = r.few; spaces = layout.0; layout = layout.1; placed = All-nil (IsPlaced layout.0 (pieces_of (tree []))) }
-  by_outs (Int n ∷ []) r given =
-      let pieces = pieces_of (tree (Int n ∷ [])) in
-      let layout = layout_from_pieces pieces text r.rest r.pieces (next_piece_none r.rest r.ended) in
-      record { short = short; few = r.few; spaces = layout.0; layout = layout.1; placed = All-cons (IsPlaced layout.0 pieces) (Int n) [] r.operands.0 (All-nil (IsPlaced layout.0 pieces)) }
-  by_outs (Add tok at left right ∷ []) r given =
-      let pieces = pieces_of (tree (Add tok at left right ∷ [])) in
-      let layout = layout_from_pieces pieces text r.rest r.pieces (next_piece_none r.rest r.ended) in
-      let sum : FirstExpr = Add 8 (position_after (text_before 8 layout.0 pieces)) left right in
-      let spelled : Spells (tree (sum ∷ [])) text = record { short = short; few = r.few; spaces = layout.0; layout = layout.1; placed = All-cons (IsPlaced layout.0 pieces) sum [] (r.operands.0.0, r.operands.0.1, refl, refl) (All-nil (IsPlaced layout.0 pieces)) } in
-      subst (λ (xs : List FirstExpr). Spells (tree xs) text) (same_Some (sum ∷ []) (Add tok at left right ∷ []) (sym (complete text (tree (sum ∷ [])) spelled) ∙ given)) spelled
-  by_outs (e ∷ f ∷ xs) r given = absurd (omega (arith, r.few))
+sound text outs short read =
+    let is = outs_in_some text outs read in
+    let pieces = pieces_of (tree outs) in
+    let layout = layout_from_pieces pieces (start_of text) is.rest is.pieces (first_piece_none is.rest.rest (next_piece_none is.rest is.ended)) in
+    let placed = all_placed_at layout.0 pieces (length opening_pieces) outs in
+    let same : pieces ≡ pieces_of (tree placed) = ap (λ (ps : List (List ℕ)). opening_pieces ++ (ps ++ closing_pieces)) (sym (statement_pieces-all_placed_at layout.0 pieces outs (length opening_pieces))) in
+    let few : length pieces ≤ TOKENS = omega (arith, is.few, after_pieces_tok pieces (start_of text) is.rest is.pieces) in
+    let spelled : Spells (tree placed) text = record {
+      short = short;
+      few_pieces = subst (λ (ps : List (List ℕ)). length ps ≤ TOKENS) same few;
+      shallow = AreShallow-all_placed_at layout.0 pieces outs (length opening_pieces) is.shallow;
+      spaces = layout.0;
+      layout = subst (IsLayout text layout.0) same layout.1;
+      placed = subst (λ (ps : List (List ℕ)). ArePlaced layout.0 ps (length opening_pieces) placed) same (ArePlaced-all_placed_at layout.0 pieces outs (length opening_pieces) is.operands);
+    } in
+    subst (λ (xs : List FirstExpr). Spells (tree xs) text) (same_Some placed outs (sym (complete text (tree placed) spelled) ∙ read)) spelled
+
+-- ---- refusals
+
+-- it is refused as not read only where no tree is spelled
+pub unspelled : (text : List ℕ) (refusal : FirstRefusal) → Refuses refusal (outs_in text) → refusal ≡ refusals.NotYet → (first : First) → Spells first text → ⊥
+unspelled text refusals.NotYet read same first s = none-some first.outs (sym read ∙ complete text first s)
+unspelled text refusals.Memory read same first s = absurd cc
 
 -- ---- laws
 

@@ -1,173 +1,160 @@
--- Expressions and statements: they are read exactly where their pieces are.
-use Rattle.std.proofs.Common.{◌≡◌, ◌≢◌, ℕ, true, List, [], ◌∷◌, ◌++◌, Option, Some, None, ℤ, codes, refl, sym, ap, subst, ◌∙◌, arith}
-use Rattle.std.proofs.lemmas.Bool.{true≢false}
-use Rattle.std.proofs.lemmas.Option.{same_Some, some_pair_parts}
-use Rattle.sat_base.specs.Position.{position_after}
+-- Expressions: what is read of one has its pieces.
+use Rattle.std.proofs.Common.{◌≡◌, ◌≢◌, ℕ, zero, suc, ◌+◌, max, ◌<◌, true, false, cond, List, [], ◌∷◌, ◌++◌, Option, Some, None, ℤ, codes, refl, sym, ap, subst, ◌∙◌, inl, inr, arith}
+use Rattle.std.specs.Str.{bytes_eq}
+use Rattle.std.proofs.lemmas.Bool.{cases_Bool, cond-true, cond-false, false_from_ne_true, true≢false}
+use Rattle.std.proofs.lemmas.Option.{none-some, same_Some, some_pair_parts}
+use Rattle.std.proofs.lemmas.Slice.Eq.{bytes_eq-Decides}
 use Rattle.sat_base.specs.declared.position.Pos.{Pos}
-use Rattle.c_reader.specs.declared.first.FirstExpr.{FirstExpr}
-use Rattle.c_reader.specs.declared.first.FirstExpr.TheVariants.{Int, Add}
-use Rattle.c_reader.specs.Form.{IsOperand, number, expression_pieces, statement_pieces, closing_pieces}
-use Rattle.c_reader.specs.Reading.{◌>>=◌, next_piece, after_piece, after_pieces, is_numeral, number_of, operand_at, operands_at, front_before, expression_at, statement_at, expression_after}
+use Rattle.c_reader.specs.declared.first.FirstExpr.{FirstExpr, Int, Add', Sub', more_of-FirstExpr as boxed, end_of-FirstExpr as end}
+use Rattle.c_reader.specs.declared.read.Operator.{Operator}
+use Rattle.c_reader.specs.declared.read.Operator.TheVariants as operators
+use Rattle.c_reader.specs.Form.{IsOperand, number, call_pieces, expression_pieces, depth_of}
+use Rattle.c_reader.specs.Reading.{◌>>=◌, Spot, Found, next_piece, after_piece, after_pieces, is_numeral, number_of, operator_of, call_of, Reads, call_after, expression_after, expression_at}
+use Rattle.c_reader.proofs.Boxes.{Add-boxed, Sub-boxed}
 use Rattle.c_reader.proofs.Numerals.{is_numeral-decimal, number_of-decimal, number_of_some}
-use Rattle.c_reader.proofs.Pieces.{bind_some, after_piece_some, after_piece-found, after_piece-other}
+use Rattle.c_reader.proofs.Pieces.{bind_some}
+use Rattle.c_reader.proofs.Spots.{bound, after_piece-found, after_joined}
 
--- ---- options
+-- ---- operators
 
--- a step whose value is known
-pub bound : {A B : Type 0} (o : Option A) (x : A) (f : A → Option B) → o ≡ Some x → (o >>= f) ≡ f x
-bound o x f e = ap (λ p. p >>= f) e
+abbrev pub name_of : Operator → List ℕ
+name_of operators.Add = codes "add"
+name_of operators.Sub = codes "sub"
 
--- two steps as one
-bind-bind : {A B C : Type 0} (o : Option A) (h : A → Option C) (f : A → Option B) (g : B → Option C) → ((x : A) → h x ≡ (f x >>= g)) → (o >>= h) ≡ ((o >>= f) >>= g)
-bind-bind (Some x) h f g e = e x
-bind-bind None h f g e = refl
+operator_of_some : (name : List ℕ) (operator : Operator) → operator_of name ≡ Some operator → name ≡ name_of operator
+unfolding operator_of
+operator_of_some name operator e =
+    let others = cond (bytes_eq name (codes "sub")) (Some operators.Sub) None in
+    elim (cases_Bool (bytes_eq name (codes "add"))) [
+      | inl is ↦
+          let same : operators.Add ≡ operator = same_Some operators.Add operator (sym (cond-true _ (Some operators.Add) others is) ∙ e) in
+          (bytes_eq-Decides name (codes "add")).0 is ∙ ap name_of same
+      | inr not ↦
+          elim (cases_Bool (bytes_eq name (codes "sub"))) [
+            | inl is ↦
+                let same : operators.Sub ≡ operator = same_Some operators.Sub operator (sym (cond-false _ (Some operators.Add) others not ∙ cond-true _ (Some operators.Sub) None is) ∙ e) in
+                (bytes_eq-Decides name (codes "sub")).0 is ∙ ap name_of same
+            | inr nor ↦ absurd (none-some operator (sym (cond-false _ (Some operators.Add) others not ∙ cond-false _ (Some operators.Sub) None nor) ∙ e))
+          ]
+    ]
 
-after_pieces-append : (ps qs : List (List ℕ)) (text : List ℕ) → after_pieces (ps ++ qs) text ≡ (after_pieces ps text >>= after_pieces qs)
-after_pieces-append [] qs text = refl
-after_pieces-append (p ∷ ps) qs text = bind-bind (after_piece p text) (after_pieces (ps ++ qs)) (after_pieces ps) (after_pieces qs) (after_pieces-append ps qs)
+pub operator_of-name_of : (operator : Operator) → operator_of (name_of operator) ≡ Some operator
+unfolding operator_of
+operator_of-name_of operators.Add = refl
+operator_of-name_of operators.Sub = refl
 
--- the rest after the first pieces, and what follows of it
-pub after_parts : (ps qs : List (List ℕ)) (text rest : List ℕ) → after_pieces (ps ++ qs) text ≡ Some rest → (middle : List ℕ) × (after_pieces ps text ≡ Some middle) × (after_pieces qs middle ≡ Some rest)
-after_parts ps qs text rest e = bind_some (after_pieces ps text) (after_pieces qs) rest (sym (after_pieces-append ps qs text) ∙ e)
+-- a number is no name
+number_is_no_name : (n : ℤ) (operator : Operator) → IsOperand n → number n ≢ name_of operator
+unfolding is_numeral
+number_is_no_name n operator operand same = true≢false (sym numeral ∙ ap is_numeral same ∙ no_numeral operator) where
+  numeral : is_numeral (number n) ≡ true
+  numeral = ap (λ (z : ℤ). is_numeral (number z)) operand.1 ∙ is_numeral-decimal operand.0 (omega (arith, operand.2))
 
-pub after_joined : (ps qs : List (List ℕ)) (text middle rest : List ℕ) → after_pieces ps text ≡ Some middle → after_pieces qs middle ≡ Some rest → after_pieces (ps ++ qs) text ≡ Some rest
-after_joined ps qs text middle rest e f = after_pieces-append ps qs text ∙ bound (after_pieces ps text) middle (after_pieces qs) e ∙ f
+  no_numeral : (o : Operator) → is_numeral (name_of o) ≡ false
+  no_numeral operators.Add = refl
+  no_numeral operators.Sub = refl
 
-after_one : (piece text rest : List ℕ) → after_pieces (piece ∷ []) text ≡ Some rest → after_piece piece text ≡ Some rest
-after_one piece text rest e =
-    let b = bind_some (after_piece piece text) (after_pieces []) rest e in
-    b.1 ∙ b.2
+pub operator_of-number : (n : ℤ) → IsOperand n → operator_of (number n) ≡ None
+unfolding operator_of
+operator_of-number n operand =
+    let add : bytes_eq (number n) (codes "add") ≡ false = false_from_ne_true _ (λ same. number_is_no_name n operators.Add operand ((bytes_eq-Decides (number n) (codes "add")).0 same)) in
+    let sub : bytes_eq (number n) (codes "sub") ≡ false = false_from_ne_true _ (λ same. number_is_no_name n operators.Sub operand ((bytes_eq-Decides (number n) (codes "sub")).0 same)) in
+    rw (add, sub) refl
 
--- ---- operands
+pub number_of-number : (n : ℤ) → IsOperand n → number_of (number n) ≡ Some n
+number_of-number n operand = ap (λ (z : ℤ). number_of (number z)) operand.1 ∙ number_of-decimal operand.0 operand.2 ∙ ap (λ (z : ℤ). Some z) (sym operand.1)
 
-operand_at_some : (text : List ℕ) (n : ℤ) (rest : List ℕ) → operand_at text ≡ Some (n, rest) → IsOperand n × (after_piece (number n) text ≡ Some rest)
-unfolding operand_at
-operand_at_some text n rest e =
-    let p = bind_some (next_piece text) (λ p. number_of p.0 >>= λ m. Some (m, p.1)) (n, rest) e in
-    let m = bind_some (number_of p.0.0) (λ m. Some (m, p.0.1)) (n, rest) p.2 in
-    let both = some_pair_parts m.0 n p.0.1 rest m.2 in
-    let value : m.0 ≡ n = both.0 in
-    let last : p.0.1 ≡ rest = both.1 in
-    let is = number_of_some p.0.0 n (m.1 ∙ ap (λ (z : ℤ). Some z) value) in
-    let digits : p.0.0 ≡ number n = is.3 ∙ ap number (sym is.1) in
-    ((is.0, is.1, is.2), after_piece-found (number n) text rest (p.1 ∙ ap (λ (x : List ℕ). Some (x, p.0.1)) digits ∙ ap (λ (x : List ℕ). Some (number n, x)) last))
+-- ---- calls
 
-operand_at-found : (text : List ℕ) (n : ℤ) (rest : List ℕ) → IsOperand n → after_piece (number n) text ≡ Some rest → operand_at text ≡ Some (n, rest)
-unfolding operand_at
-operand_at-found text n rest operand e =
-    let value : number_of (number n) ≡ Some n = ap (λ (z : ℤ). number_of (number z)) operand.1 ∙ number_of-decimal operand.0 operand.2 ∙ ap (λ (z : ℤ). Some z) (sym operand.1) in
-    rw (after_piece_some (number n) text rest e, value) refl
+-- a call as the definitions by cases match on it
+abbrev pub call_tree : Operator → ℕ → Pos → FirstExpr → FirstExpr → FirstExpr
+call_tree operators.Add tok at left right = Add' tok at tt (boxed left end) tt (boxed right end)
+call_tree operators.Sub tok at left right = Sub' tok at tt (boxed left end) tt (boxed right end)
 
-abbrev operands_pieces : ℤ → ℤ → List (List ℕ)
-operands_pieces left right = codes "(" ∷ number left ∷ codes "," ∷ number right ∷ codes ")" ∷ []
-
-operands_read : (text a b c d rest : List ℕ) (left right : ℤ) → after_piece (codes "(") text ≡ Some a → after_piece (number left) a ≡ Some b → after_piece (codes ",") b ≡ Some c → after_piece (number right) c ≡ Some d → after_piece (codes ")") d ≡ Some rest → after_pieces (operands_pieces left right) text ≡ Some rest
-operands_read text a b c d rest left right ea eb ec ed ef = rw (ea, eb, ec, ed, ef) refl
-
-operands_at_some : (text : List ℕ) (left right : ℤ) (rest : List ℕ) → operands_at text ≡ Some (left, right, rest) → IsOperand left × IsOperand right × (after_pieces (operands_pieces left right) text ≡ Some rest)
-unfolding operands_at
-operands_at_some text left right rest e =
-    let a = bind_some (after_piece (codes "(") text) _ (left, right, rest) e in
-    let b = bind_some (operand_at a.0) _ (left, right, rest) a.2 in
-    let c = bind_some (after_piece (codes ",") b.0.1) _ (left, right, rest) b.2 in
-    let d = bind_some (operand_at c.0) _ (left, right, rest) c.2 in
-    let f = bind_some (after_piece (codes ")") d.0.1) _ (left, right, rest) d.2 in
-    let made : (b.0.0, d.0.0, f.0) ≡ (left, right, rest) = same_Some (b.0.0, d.0.0, f.0) (left, right, rest) f.2 in
-    let first = operand_at_some a.0 b.0.0 b.0.1 b.1 in
-    let second = operand_at_some c.0 d.0.0 d.0.1 d.1 in
-    let read : after_pieces (operands_pieces b.0.0 d.0.0) text ≡ Some f.0 = operands_read text a.0 b.0.1 c.0 d.0.1 f.0 b.0.0 d.0.0 a.1 first.1 c.1 second.1 f.1 in
-    subst (λ (p : ℤ × ℤ × List ℕ). IsOperand p.0 × IsOperand p.1 × (after_pieces (operands_pieces p.0 p.1) text ≡ Some p.2)) made (first.0, second.0, read)
-
-operands_at-found : (text : List ℕ) (left right : ℤ) (rest : List ℕ) → IsOperand left → IsOperand right → after_pieces (operands_pieces left right) text ≡ Some rest → operands_at text ≡ Some (left, right, rest)
-unfolding operands_at
-operands_at-found text left right rest l r e =
-    let a = bind_some (after_piece (codes "(") text) _ rest e in
-    let b = bind_some (after_piece (number left) a.0) _ rest a.2 in
-    let c = bind_some (after_piece (codes ",") b.0) _ rest b.2 in
-    let d = bind_some (after_piece (number right) c.0) _ rest c.2 in
-    let f = after_one (codes ")") d.0 rest d.2 in
-    rw (a.1, operand_at-found a.0 left b.0 l b.1, c.1, operand_at-found c.0 right d.0 r d.1, f) refl
-
--- ---- expressions
+pub call_of-tree : (operator : Operator) (name : Found) (left right : FirstExpr) → call_of operator name left right ≡ call_tree operator name.tok name.pos left right
+call_of-tree operators.Add name left right = Add-boxed name.tok name.pos left right
+call_of-tree operators.Sub name left right = Sub-boxed name.tok name.pos left right
 
 -- the numbers of an expression are operands
 abbrev pub HasOperands : FirstExpr → Type 0
 HasOperands (Int n) = IsOperand n
-HasOperands (Add tok at left right) = IsOperand left × IsOperand right
+HasOperands (Add' tok at _ (boxed left _) _ (boxed right _)) = HasOperands left × HasOperands right
+HasOperands (Sub' tok at _ (boxed left _) _ (boxed right _)) = HasOperands left × HasOperands right
 
--- the expression with the number of its token, and with this place of it
-abbrev pub placed : Pos → FirstExpr → FirstExpr
-placed place (Int n) = Int n
-placed place (Add tok at left right) = Add 8 place left right
+HasOperands-call : (operator : Operator) (tok : ℕ) (at : Pos) (left right : FirstExpr) → HasOperands left → HasOperands right → HasOperands (call_tree operator tok at left right)
+HasOperands-call operators.Add tok at left right l r = (l, r)
+HasOperands-call operators.Sub tok at left right l r = (l, r)
 
--- a number is no name
-number_is_not_add : (n : ℤ) → IsOperand n → number n ≢ codes "add"
-unfolding is_numeral
-number_is_not_add n operand same =
-    let numeral : is_numeral (number n) ≡ true = ap (λ (z : ℤ). is_numeral (number z)) operand.1 ∙ is_numeral-decimal operand.0 (omega (arith, operand.2)) in
-    true≢false (sym numeral ∙ ap is_numeral same)
+pub expression_pieces-call : (operator : Operator) (tok : ℕ) (at : Pos) (left right : FirstExpr)
+    → expression_pieces (call_tree operator tok at left right) ≡ call_pieces (name_of operator) (expression_pieces left) (expression_pieces right)
+expression_pieces-call operators.Add tok at left right = refl
+expression_pieces-call operators.Sub tok at left right = refl
 
-expression_at_some : (text from : List ℕ) (e : FirstExpr) (rest : List ℕ) → expression_at text from ≡ Some (e, rest) → HasOperands e × (after_pieces (expression_pieces e) from ≡ Some rest)
+depth_of-call : (operator : Operator) (tok : ℕ) (at : Pos) (left right : FirstExpr) → depth_of (call_tree operator tok at left right) ≡ max (depth_of left) (depth_of right) + 1
+depth_of-call operators.Add tok at left right = refl
+depth_of-call operators.Sub tok at left right = refl
+
+-- ---- what is read
+
+-- an expression less deep than this is read from one place to the other
+pub record IsRead (levels : ℕ) (e : FirstExpr) (s t : Spot) : Type 0 where
+  pub operands : HasOperands e
+  pub shallow : depth_of e < levels
+  pub pieces : after_pieces (expression_pieces e) s ≡ Some t
+
+-- all that this reads is so
+abbrev AllRead : ℕ → Reads FirstExpr → Type 0
+AllRead levels reader = (s t : Spot) (e : FirstExpr) → reader s ≡ Some (e, t) → IsRead levels e s t
+
+call_some : (levels : ℕ) (operand : Reads FirstExpr) → AllRead levels operand → (operator : Operator) (name : Found) (s named t : Spot) (e : FirstExpr)
+    → after_piece (name_of operator) s ≡ Some named → call_after operand operator name named ≡ Some (e, t) → IsRead (suc levels) e s t
+unfolding call_after
+call_some levels operand all operator name s named t e found read =
+    let a = bind_some (after_pieces (codes "(" ∷ []) named) _ (e, t) read in
+    let l = bind_some (operand a.0) _ (e, t) a.2 in
+    let b = bind_some (after_pieces (codes "," ∷ []) l.0.1) _ (e, t) l.2 in
+    let r = bind_some (operand b.0) _ (e, t) b.2 in
+    let c = bind_some (after_pieces (codes ")" ∷ []) r.0.1) _ (e, t) r.2 in
+    let both = some_pair_parts (call_of operator name l.0.0 r.0.0) e c.0 t c.2 in
+    let same : call_tree operator name.tok name.pos l.0.0 r.0.0 ≡ e = sym (call_of-tree operator name l.0.0 r.0.0) ∙ both.0 in
+    let left = all a.0 l.0.1 l.0.0 l.1 in
+    let right = all b.0 r.0.1 r.0.0 r.1 in
+    let tree = call_tree operator name.tok name.pos l.0.0 r.0.0 in
+    let depth = depth_of-call operator name.tok name.pos l.0.0 r.0.0 in
+    let closed = after_joined (expression_pieces r.0.0) (codes ")" ∷ []) b.0 r.0.1 c.0 right.pieces c.1 in
+    let parted = after_joined (codes "," ∷ []) (expression_pieces r.0.0 ++ codes ")" ∷ []) l.0.1 b.0 c.0 b.1 closed in
+    let inside = after_joined (expression_pieces l.0.0) (codes "," ∷ (expression_pieces r.0.0 ++ codes ")" ∷ [])) a.0 l.0.1 c.0 left.pieces parted in
+    let opened = after_joined (codes "(" ∷ []) (expression_pieces l.0.0 ++ codes "," ∷ (expression_pieces r.0.0 ++ codes ")" ∷ [])) named a.0 c.0 a.1 inside in
+    let whole : after_pieces (call_pieces (name_of operator) (expression_pieces l.0.0) (expression_pieces r.0.0)) s ≡ Some c.0 =
+    after_joined (name_of operator ∷ []) (codes "(" ∷ (expression_pieces l.0.0 ++ codes "," ∷ (expression_pieces r.0.0 ++ codes ")" ∷ []))) s named c.0 (bound (after_piece (name_of operator) s) named (after_pieces []) found) opened in
+    let is : IsRead (suc levels) tree s c.0 = record {
+      operands = HasOperands-call operator name.tok name.pos l.0.0 r.0.0 left.operands right.operands;
+      shallow = omega (arith, depth, left.shallow, right.shallow);
+      pieces = subst (λ ps. after_pieces ps s ≡ Some c.0) (sym (expression_pieces-call operator name.tok name.pos l.0.0 r.0.0)) whole;
+    } in
+    subst (IsRead (suc levels) e s) both.1 (subst (λ (x : FirstExpr). IsRead (suc levels) x s c.0) same is)
+
+number_some : (levels : ℕ) (piece : Found) (s past t : Spot) (e : FirstExpr) → next_piece s ≡ Some (piece, past) → ◌>>=◌ {B = FirstExpr × Spot} (number_of piece.text) (λ n. Some (Int n, past)) ≡ Some (e, t) → IsRead (suc levels) e s t
+number_some levels piece s past t e found read =
+    let n = bind_some (number_of piece.text) (λ n. Some (Int n, past)) (e, t) read in
+    let both = some_pair_parts (Int n.0) e past t n.2 in
+    let is = number_of_some piece.text n.0 n.1 in
+    let digits : piece.text ≡ number n.0 = is.3 ∙ ap number (sym is.1) in
+    let one : after_piece (number n.0) s ≡ Some past = ap (λ (x : List ℕ). after_piece x s) (sym digits) ∙ after_piece-found s piece past found in
+    let all : after_pieces (number n.0 ∷ []) s ≡ Some past = bound (after_piece (number n.0) s) past (after_pieces []) one in
+    let read : IsRead (suc levels) (Int n.0) s past = record { operands = (is.0, is.1, is.2); shallow = omega arith; pieces = all } in
+    subst (IsRead (suc levels) e s) both.1 (subst (λ (x : FirstExpr). IsRead (suc levels) x s past) both.0 read)
+
+expression_after_some : (levels : ℕ) (operand : Reads FirstExpr) → AllRead levels operand → (piece : Found) (s past t : Spot) (e : FirstExpr) → next_piece s ≡ Some (piece, past)
+    → (o : Option Operator) → operator_of piece.text ≡ o → expression_after operand o piece past ≡ Some (e, t) → IsRead (suc levels) e s t
+expression_after_some levels operand all piece s past t e found (Some operator) named read =
+    let name : after_piece (name_of operator) s ≡ Some past = ap (λ (x : List ℕ). after_piece x s) (sym (operator_of_some piece.text operator named)) ∙ after_piece-found s piece past found in
+    call_some levels operand all operator piece s past t e name read
+expression_after_some levels operand all piece s past t e found None named read = number_some levels piece s past t e found read
+
+pub expression_at_some : (levels : ℕ) (s t : Spot) (e : FirstExpr) → expression_at levels s ≡ Some (e, t) → IsRead levels e s t
 unfolding expression_at
-expression_at_some text from e rest read = by_name (after_piece (codes "add") from) refl read where
-  by_name : (o : Option (List ℕ)) → after_piece (codes "add") from ≡ o → expression_after text from o ≡ Some (e, rest) → HasOperands e × (after_pieces (expression_pieces e) from ≡ Some rest)
-  by_name (Some opened) found made =
-      let b = bind_some (operands_at opened) _ (e, rest) made in
-      let p = b.0 in
-      let is = operands_at_some opened p.0 p.1 p.2 b.1 in
-      let sum : FirstExpr = Add 8 (position_after (front_before text from)) p.0 p.1 in
-      let both = some_pair_parts sum e p.2 rest b.2 in
-      let all : after_pieces (expression_pieces sum) from ≡ Some p.2 = bound (after_piece (codes "add") from) opened (after_pieces (operands_pieces p.0 p.1)) found ∙ is.2 in
-      subst (λ (x : FirstExpr). HasOperands x × (after_pieces (expression_pieces x) from ≡ Some rest)) both.0 ((is.0, is.1), all ∙ ap (λ (x : List ℕ). Some x) both.1)
-  by_name None found made =
-      let b = bind_some (operand_at from) _ (e, rest) made in
-      let is = operand_at_some from b.0.0 b.0.1 b.1 in
-      let both = some_pair_parts (Int b.0.0) e b.0.1 rest b.2 in
-      let all : after_pieces (expression_pieces (Int b.0.0)) from ≡ Some b.0.1 = bound (after_piece (number b.0.0) from) b.0.1 (after_pieces []) is.1 in
-      subst (λ (x : FirstExpr). HasOperands x × (after_pieces (expression_pieces x) from ≡ Some rest)) both.0 (is.0, all ∙ ap (λ (x : List ℕ). Some x) both.1)
-
-expression_at-found : (text from : List ℕ) (e : FirstExpr) (rest : List ℕ) → HasOperands e → after_pieces (expression_pieces e) from ≡ Some rest → expression_at text from ≡ Some (placed (position_after (front_before text from)) e, rest)
-unfolding expression_at
-expression_at-found text from (Int n) rest operand read =
-    let one = after_one (number n) from rest read in
-    let other = after_piece-other (codes "add") from (number n) rest (after_piece_some (number n) from rest one) (number_is_not_add n operand) in
-    rw (other, operand_at-found from n rest operand one) refl
-expression_at-found text from (Add tok at left right) rest both read =
-    let a = bind_some (after_piece (codes "add") from) _ rest read in
-    rw (a.1, operands_at-found a.0 left right rest both.0 both.1 a.2) refl
-
--- ---- statements
-
-abbrev pub head_pieces : List (List ℕ)
-head_pieces = codes "sample_out" ∷ codes "(" ∷ []
-
-abbrev pub tail_pieces : List (List ℕ)
-tail_pieces = codes ")" ∷ codes ";" ∷ []
-
-pub statement_at_some : (text from : List ℕ) (e : FirstExpr) (rest : List ℕ) → statement_at text from ≡ Some (e, rest) → HasOperands e × (after_pieces (statement_pieces e) from ≡ Some rest)
-unfolding statement_at
-statement_at_some text from e rest read =
-    let a = bind_some (after_pieces head_pieces from) _ (e, rest) read in
-    let b = bind_some (expression_at text a.0) _ (e, rest) a.2 in
-    let c = bind_some (after_pieces tail_pieces b.0.1) _ (e, rest) b.2 in
-    let both = some_pair_parts b.0.0 e c.0 rest c.2 in
-    let is = expression_at_some text a.0 b.0.0 b.0.1 b.1 in
-    let inner = after_joined (expression_pieces b.0.0) tail_pieces a.0 b.0.1 c.0 is.1 c.1 in
-    let all = after_joined head_pieces (expression_pieces b.0.0 ++ tail_pieces) from a.0 c.0 a.1 inner in
-    subst (λ (x : FirstExpr). HasOperands x × (after_pieces (statement_pieces x) from ≡ Some rest)) both.0 (is.0, all ∙ ap (λ (x : List ℕ). Some x) both.1)
-
-pub statement_at-found : (text from opened : List ℕ) (e : FirstExpr) (rest : List ℕ) → HasOperands e → after_pieces head_pieces from ≡ Some opened → after_pieces (expression_pieces e ++ tail_pieces) opened ≡ Some rest → statement_at text from ≡ Some (placed (position_after (front_before text opened)) e, rest)
-unfolding statement_at
-statement_at-found text from opened e rest operands head read =
-    let parts = after_parts (expression_pieces e) tail_pieces opened rest read in
-    bound (after_pieces head_pieces from) opened _ head
-    ∙ bound (expression_at text opened) (placed (position_after (front_before text opened)) e, parts.0) _ (expression_at-found text opened e parts.0 operands parts.1)
-    ∙ bound (after_pieces tail_pieces parts.0) rest _ parts.2
-
--- no statement is read where the closing stands
-pub statement_at-closing : (text from rest : List ℕ) → after_pieces closing_pieces from ≡ Some rest → statement_at text from ≡ None
-unfolding statement_at
-statement_at-closing text from rest e =
-    let a = bind_some (after_piece (codes "return") from) _ rest e in
-    let other = after_piece-other (codes "sample_out") from (codes "return") a.0 (after_piece_some (codes "return") from a.0 a.1) (λ same. absurd cc) in
-    rw other refl
+expression_at_some zero s t e read = absurd (none-some (e, t) read)
+expression_at_some (suc levels) s t e read =
+    let b = bind_some (next_piece s) (λ p. expression_after (expression_at levels) (operator_of p.0.text) p.0 p.1) (e, t) read in
+    expression_after_some levels (expression_at levels) (expression_at_some levels) b.0.0 s b.0.1 t e b.1 (operator_of b.0.0.text) refl b.2

@@ -1,13 +1,15 @@
 -- The first form of sources: which texts its trees spell. A text is a concatenation of pieces, which are
--- words, numbers and marks, with white space before each of them and after the last.
-use Rattle.std.specs.Prelude.{◌≡◌, ◌≢◌, ℕ, zero, suc, ◌+◌, ◌≤◌, ◌⊎◌, ℤ, pos, List, [], ◌∷◌, ◌++◌, length, All, codes, unsigned_abs, slice_index}
+-- words, numbers and marks, with white space before each of them and after the last. In a pattern `boxed e` is
+-- a box with e in it.
+use Rattle.std.specs.Prelude.{◌≡◌, ◌≢◌, ℕ, zero, suc, ◌+◌, max, ◌≤◌, ◌⊎◌, ℤ, pos, List, [], ◌∷◌, ◌++◌, length, All, codes, unsigned_abs, slice_index}
 use Rattle.std.specs.List.{flat_map}
 use Rattle.std.specs.Fmt.{decimal}
 use Rattle.sat_base.specs.Position.{position_after}
-use Rattle.sat_base.specs.declared.limits.TheConstants.{SOURCE_BYTES}
+use Rattle.sat_base.specs.declared.limits.TheConstants.{SOURCE_BYTES, TOKENS}
+use Rattle.sat_base.specs.declared.position.Pos.{Pos}
+use Rattle.c_reader.specs.declared.first.TheConstants.{NESTING}
 use Rattle.c_reader.specs.declared.first.First.{First}
-use Rattle.c_reader.specs.declared.first.FirstExpr.{FirstExpr}
-use Rattle.c_reader.specs.declared.first.FirstExpr.TheVariants.{Int, Add}
+use Rattle.c_reader.specs.declared.first.FirstExpr.{FirstExpr, Int, Add', Sub', more_of-FirstExpr as boxed}
 
 -- ---- the pieces
 
@@ -19,10 +21,14 @@ IsOperand n = (m : ℕ) × (n ≡ pos m) × (m ≤ 32767)
 abbrev pub number : ℤ → List ℕ
 number n = decimal (unsigned_abs n)
 
+-- `name ( left , right )`
+abbrev pub call_pieces : List ℕ → List (List ℕ) → List (List ℕ) → List (List ℕ)
+call_pieces name left right = name ∷ codes "(" ∷ (left ++ codes "," ∷ (right ++ codes ")" ∷ []))
+
 abbrev pub expression_pieces : FirstExpr → List (List ℕ)
 expression_pieces (Int n) = number n ∷ []
-expression_pieces (Add tok at left right) =
-    codes "add" ∷ codes "(" ∷ number left ∷ codes "," ∷ number right ∷ codes ")" ∷ []
+expression_pieces (Add' tok at _ (boxed left _) _ (boxed right _)) = call_pieces (codes "add") (expression_pieces left) (expression_pieces right)
+expression_pieces (Sub' tok at _ (boxed left _) _ (boxed right _)) = call_pieces (codes "sub") (expression_pieces left) (expression_pieces right)
 
 -- `sample_out ( E ) ;`
 abbrev pub statement_pieces : FirstExpr → List (List ℕ)
@@ -80,16 +86,40 @@ pub record IsLayout (text : List ℕ) (spaces pieces : List (List ℕ)) : Type 0
 
 -- ---- the tree
 
--- each number is an operand, and a called name has the number and the place of its token
-abbrev pub IsPlaced : List (List ℕ) → List (List ℕ) → FirstExpr → Type 0
-IsPlaced spaces pieces (Int n) = IsOperand n
-IsPlaced spaces pieces (Add tok at left right) =
-    IsOperand left × IsOperand right × (tok ≡ length opening_pieces + 2) × (at ≡ position_after (text_before tok spaces pieces))
+-- how many calls lie one in another
+abbrev pub depth_of : FirstExpr → ℕ
+depth_of (Int n) = 0
+depth_of (Add' tok at _ (boxed left _) _ (boxed right _)) = max (depth_of left) (depth_of right) + 1
+depth_of (Sub' tok at _ (boxed left _) _ (boxed right _)) = max (depth_of left) (depth_of right) + 1
 
--- the text is not too long, and it is the tree's pieces with white space; at most one statement writes
+-- a called name has the number `start`, and the place of that token
+abbrev pub IsNamedAt : List (List ℕ) → List (List ℕ) → ℕ → ℕ → Pos → Type 0
+IsNamedAt spaces pieces start tok at = (tok ≡ start) × (at ≡ position_after (text_before tok spaces pieces))
+
+-- in an expression whose first token has the number `start`, each number is an operand, and each called name
+-- has the number and the place of its token
+abbrev pub IsPlaced : List (List ℕ) → List (List ℕ) → ℕ → FirstExpr → Type 0
+IsPlaced spaces pieces start (Int n) = IsOperand n
+IsPlaced spaces pieces start (Add' tok at _ (boxed left _) _ (boxed right _)) =
+    IsNamedAt spaces pieces start tok at
+    × IsPlaced spaces pieces (start + 2) left
+    × IsPlaced spaces pieces (start + 2 + length (expression_pieces left) + 1) right
+IsPlaced spaces pieces start (Sub' tok at _ (boxed left _) _ (boxed right _)) =
+    IsNamedAt spaces pieces start tok at
+    × IsPlaced spaces pieces (start + 2) left
+    × IsPlaced spaces pieces (start + 2 + length (expression_pieces left) + 1) right
+
+-- so it is in each of the statements, the first of which begins at the token with the number `start`
+abbrev pub ArePlaced : List (List ℕ) → List (List ℕ) → ℕ → List FirstExpr → Type 0
+ArePlaced spaces pieces start [] = Unit {0}
+ArePlaced spaces pieces start (e ∷ es) =
+    IsPlaced spaces pieces (start + 2) e × ArePlaced spaces pieces (start + length (statement_pieces e)) es
+
+-- the text is the tree's pieces with white space, within the limits
 pub record Spells (first : First) (text : List ℕ) : Type 0 where
   pub short : length text ≤ SOURCE_BYTES
-  pub few : length first.outs ≤ 1
+  pub few_pieces : length (pieces_of first) ≤ TOKENS
+  pub shallow : All (λ e. depth_of e ≤ NESTING) first.outs
   pub spaces : List (List ℕ)
   pub layout : IsLayout text spaces (pieces_of first)
-  pub placed : All (IsPlaced spaces (pieces_of first)) first.outs
+  pub placed : ArePlaced spaces (pieces_of first) (length opening_pieces) first.outs

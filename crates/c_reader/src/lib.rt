@@ -1,6 +1,7 @@
-// Reads the first form of sources: a `main` that writes at most one sample.
+// Reads the first form of sources: a `main` that writes the values of expressions of `add` and `sub`.
 #![tactic(auto)]
 
+mod cursor;
 pub mod first;
 mod laws;
 mod piece;

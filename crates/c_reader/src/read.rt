@@ -1,105 +1,21 @@
 // Reads a text of the first form from left to right.
 
-ghost use Rattle.std.specs.Prelude.{◌≡◌, ◌≤◌, ◌↔◌, length, take, option_map, IfOk, IfSome};
-ghost use Rattle.sat_base.specs.Position.{position_after};
+ghost use Rattle.std.specs.Prelude.{◌≡◌, ◌≤◌, length, map, IfOk};
 ghost use Rattle.c_reader.specs.Form.{Spells};
 ghost use Rattle.c_reader.specs.Laws.{HasFirstForm};
-ghost use Rattle.c_reader.specs.Reading.{operand_at, operands_at, expression_at, statement_at, outs_in, outs_of};
+ghost use Rattle.c_reader.specs.Reading.{Gives, found_of, spot_of, after_pieces, operator_of, call_of, expression_at, statement_after, statements_at, outs_in};
 ghost use Rattle.c_reader.specs.declared.first.FirstRefusal.TheVariants.{Memory};
 
-use crate::first::{First, FirstExpr, FirstRefusal};
-use crate::piece::{after_piece, after_pieces, next_piece, number, skip_white};
-use sat_base::Pos;
-use sat_base::limits::SOURCE_BYTES;
-use sqlite_items::Items;
+use crate::cursor::{Cursor, Piece};
+use crate::first::{First, FirstExpr, FirstRefusal, NESTING};
+use crate::piece::number;
+use sat_base::limits::{SOURCE_BYTES, TOKENS};
+use sqlite_items::{Boxed, Items};
 use std::alloc::{AllocError, Global};
 
 const OPENING: [&str; 6] = ["int", "main", "(", "void", ")", "{"];
 
 const CLOSING: [&str; 4] = ["return", "0", ";", "}"];
-
-/// The token `add` follows those of the opening, `sample_out` and `(`.
-const ADD_TOKEN: u32 = 8;
-
-/// The place of what follows these bytes of a source.
-fn position_after(front: &[u8]) -> Pos
-    requires { length front.now ≤ SOURCE_BYTES }
-    ensures { result ≡ position_after front.now }
-{
-    let mut at = Pos { line: 1, col: 1 };
-    for byte in front {
-        at = if *byte == b'\n' {
-            Pos {
-                line: at.line + 1,
-                col: 1,
-            }
-        } else {
-            Pos {
-                line: at.line,
-                col: at.col + 1,
-            }
-        };
-    }
-    at
-}
-
-/// A number from 0 to 32767 at the front of the text, and what follows it.
-#[tactic(auto, unfolding(crate::specs::Reading::operand_at))]
-fn operand(text: &[u8]) -> Option<(i32, &[u8])>
-    ensures { option_map (λ p. (p.0, p.1.now)) result ≡ operand_at text.now }
-{
-    let (piece, rest) = next_piece(text)?;
-    Some((number(piece)?, rest))
-}
-
-/// `( E , E )`, the two numbers and what follows.
-#[tactic(auto, unfolding(crate::specs::Reading::operands_at))]
-fn operands(text: &[u8]) -> Option<(i32, i32, &[u8])>
-    ensures { option_map (λ p. (p.0, p.1, p.2.now)) result ≡ operands_at text.now }
-{
-    let rest = after_piece(text, "(")?;
-    let (left, rest) = operand(rest)?;
-    let rest = after_piece(rest, ",")?;
-    let (right, rest) = operand(rest)?;
-    let rest = after_piece(rest, ")")?;
-    Some((left, right, rest))
-}
-
-/// An expression at `from`, which is where it stands in the text, and what follows it.
-#[tactic(auto, unfolding(crate::specs::Reading::expression_at, crate::specs::Reading::front_before))]
-fn expression<'a>(text: &[u8], from: &'a [u8]) -> Option<(FirstExpr, &'a [u8])>
-    requires source { length text.now ≤ SOURCE_BYTES }
-    requires within { length from.now ≤ length text.now }
-    ensures { option_map (λ p. (p.0, p.1.now)) result ≡ expression_at text.now from.now }
-{
-    let Some(rest) = after_piece(from, "add") else {
-        let (value, rest) = operand(from)?;
-        return Some((FirstExpr::Int(value), rest));
-    };
-    let (left, right, rest) = operands(rest)?;
-    let before = text.len() - skip_white(from).len();
-    let pos = position_after(&text[..before]);
-    let sum = FirstExpr::Add {
-        tok: ADD_TOKEN,
-        pos,
-        left,
-        right,
-    };
-    Some((sum, rest))
-}
-
-/// `sample_out ( E ) ;` at `from`, which is where it stands in the text, and what follows it.
-#[tactic(auto, unfolding(crate::specs::Reading::statement_at))]
-fn statement<'a>(text: &[u8], from: &'a [u8]) -> Option<(FirstExpr, &'a [u8])>
-    requires source { length text.now ≤ SOURCE_BYTES }
-    requires within { length from.now ≤ length text.now }
-    ensures { option_map (λ p. (p.0, p.1.now)) result ≡ statement_at text.now from.now }
-{
-    let rest = after_pieces(from, &["sample_out", "("])?;
-    let (written, rest) = expression(text, rest)?;
-    let rest = after_pieces(rest, &[")", ";"])?;
-    Some((written, rest))
-}
 
 impl From<AllocError> for FirstRefusal {
     ghost from_gives = { λ _ refusal. refusal ≡ Memory };
@@ -109,43 +25,140 @@ impl From<AllocError> for FirstRefusal {
     }
 }
 
-/// What the `main` of a text of the first form does.
+/// The operators of the form.
 #[derive(Clone, Copy)]
-enum Body {
-    Nothing,
-    Writes(FirstExpr),
+enum Operator {
+    Add,
+    Sub,
 }
 
-/// The body of `main`, if the text has the first form.
-#[tactic(auto, unfolding(crate::specs::Reading::outs_in))]
-fn main_body(text: &[u8]) -> Option<Body>
-    requires { length text.now ≤ SOURCE_BYTES }
-    ensures { option_map outs_of result ≡ outs_in text.now }
+/// The operator of this name.
+#[tactic(auto, unfolding(crate::specs::Reading::operator_of))]
+fn operator_named(name: &[u8]) -> Option<Operator>
+    ensures { result ≡ operator_of name.now }
 {
-    let start = after_pieces(text, &OPENING)?;
-    let (body, rest) = match statement(text, start) {
-        Some((written, rest)) => (Body::Writes(written), rest),
-        None => (Body::Nothing, start),
-    };
-    let rest = after_pieces(rest, &CLOSING)?;
-    next_piece(rest).is_none().then_some(body)
+    match name {
+        b"add" => Some(Operator::Add),
+        b"sub" => Some(Operator::Sub),
+        _ => None,
+    }
 }
 
-/// The source that the text spells. It is refused as `NotYet` exactly where the text has not the first form,
-/// and as `Memory` only where it has.
+/// A call of the operator.
+fn call(
+    operator: Operator,
+    name: Piece,
+    left: Boxed<FirstExpr>,
+    right: Boxed<FirstExpr>,
+) -> FirstExpr
+    ensures { result ≡ call_of operator (found_of name.entry) left right }
+{
+    let Piece { tok, pos, .. } = name;
+    match operator {
+        Operator::Add => FirstExpr::Add {
+            tok,
+            pos,
+            left,
+            right,
+        },
+        Operator::Sub => FirstExpr::Sub {
+            tok,
+            pos,
+            left,
+            right,
+        },
+    }
+}
+
+/// What follows these pieces, which have to come first.
+fn expect<'a>(at: Cursor<'a>, pieces: &[&str]) -> Result<Cursor<'a>, FirstRefusal>
+    ensures value { Gives spot_of result (after_pieces (map (λ p. p.now) pieces.now) (spot_of at.entry)) }
+    ensures within { IfOk result (λ rest. length rest.rest.now ≤ length at.entry.rest.now) }
+{
+    at.after_pieces(pieces).ok_or(FirstRefusal::NotYet)
+}
+
+/// An expression less deep than `levels`, and what follows it.
+#[tactic(auto, unfolding(crate::specs::Reading::expression_at, crate::specs::Reading::call_after))]
+fn expression<'a>(
+    alloc: Global,
+    at: Cursor<'a>,
+    levels: usize,
+) -> Result<(FirstExpr, Cursor<'a>), FirstRefusal>
+    ensures value { Gives (λ p. (p.0, spot_of p.1)) result (expression_at levels (spot_of at.entry)) }
+    ensures within { IfOk result (λ p. length p.1.rest.now ≤ length at.entry.rest.now) }
+{
+    if levels == 0 {
+        return Err(FirstRefusal::NotYet);
+    }
+    let (piece, rest) = at.next_piece().ok_or(FirstRefusal::NotYet)?;
+    let Some(operator) = operator_named(piece.text) else {
+        let value = number(piece.text).ok_or(FirstRefusal::NotYet)?;
+        return Ok((FirstExpr::Int(value), rest));
+    };
+    let rest = expect(rest, &["("])?;
+    let (left, rest) = expression(alloc, rest, levels - 1)?;
+    let rest = expect(rest, &[","])?;
+    let (right, rest) = expression(alloc, rest, levels - 1)?;
+    let rest = expect(rest, &[")"])?;
+    let left = Boxed::new(alloc, left)?;
+    let right = Boxed::new(alloc, right)?;
+    Ok((call(operator, piece, left, right), rest))
+}
+
+/// What a statement writes and what follows it, after its `sample_out`.
+#[tactic(auto, unfolding(crate::specs::Reading::statement_after))]
+fn statement<'a>(alloc: Global, named: Cursor<'a>) -> Result<(FirstExpr, Cursor<'a>), FirstRefusal>
+    ensures value { Gives (λ p. (p.0, spot_of p.1)) result (statement_after (spot_of named.entry)) }
+    ensures within { IfOk result (λ p. length p.1.rest.now ≤ length named.entry.rest.now) }
+{
+    let rest = expect(named, &["("])?;
+    let (written, rest) = expression(alloc, rest, NESTING + 1)?;
+    let rest = expect(rest, &[")", ";"])?;
+    Ok((written, rest))
+}
+
+/// What the statements write, and what follows them.
+fn statements<'a>(
+    alloc: Global,
+    start: Cursor<'a>,
+) -> Result<(Items<FirstExpr>, Cursor<'a>), FirstRefusal>
+    ensures { Gives (λ p. (p.0, spot_of p.1)) result (statements_at (length start.entry.rest.now) (spot_of start.entry)) }
+{
+    let mut outs = Items::new(alloc);
+    let mut at = start;
+    while let Some(named) = at.after_piece("sample_out") {
+        let (written, rest) = statement(alloc, named)?;
+        outs.push(written)?;
+        at = rest;
+    }
+    Ok((outs, at))
+}
+
+/// What the `main` of the text writes.
+#[tactic(auto, unfolding(crate::specs::Reading::outs_in))]
+fn outs(alloc: Global, text: &[u8]) -> Result<Items<FirstExpr>, FirstRefusal>
+    requires { length text.now ≤ SOURCE_BYTES }
+    ensures { Gives (λ outs. outs) result (outs_in text.now) }
+{
+    let start = expect(Cursor::new(text), &OPENING)?;
+    let (outs, rest) = statements(alloc, start)?;
+    let rest = expect(rest, &CLOSING)?;
+    if rest.next_piece().is_some() || rest.tok as usize > TOKENS {
+        return Err(FirstRefusal::NotYet);
+    }
+    Ok(outs)
+}
+
+/// The source that the text spells. It is refused as `NotYet` only where the text has not the first form, and
+/// as `Memory` for want of memory.
 pub fn read_first(alloc: Global, text: &[u8]) -> Result<First, FirstRefusal>
     ensures found { IfOk result (λ first. Spells first text.now) }
-    ensures refused { (result ≡ Err FirstRefusal.NotYet) ↔ ¬ HasFirstForm text.now }
+    ensures refused { result ≡ Err FirstRefusal.NotYet → ¬ HasFirstForm text.now }
 {
     if text.len() > SOURCE_BYTES {
         return Err(FirstRefusal::NotYet);
     }
-    let Some(body) = main_body(text) else {
-        return Err(FirstRefusal::NotYet);
-    };
-    let mut outs = Items::new(alloc);
-    if let Body::Writes(written) = body {
-        outs.push(written)?;
-    }
+    let outs = outs(alloc, text)?;
     Ok(First { outs })
 }

@@ -1,3 +1,4 @@
 pub mod Alike
 pub mod Moments
+pub mod Stores
 pub mod Words

@@ -2,7 +2,7 @@
 use Rattle.std.specs.Prelude.{◌≡◌, ℕ, ◌+◌, ◌*◌, ◌/◌, ◌%◌, ◌^◌, ◌<◌, ℤ, pos, ◌-ℤ◌, ◌≤ℤ◌, ◌<ℤ◌, ◌&&◌, ◌==◌, nat_lt, if◌then◌else◌, Option, Some, None}
 use Rattle.std.specs.Int.{w32, cast_unsigned}
 use Rattle.rv_emulator.specs.declared.instruction.Instr.{Instr}
-use Rattle.rv_emulator.specs.declared.instruction.Instr.TheVariants.{Lui, Addi, Add, Blt, Bge, Jal, Ecall}
+use Rattle.rv_emulator.specs.declared.instruction.Instr.TheVariants.{Lui, Addi, Add, Sub, Lw, Sw, Blt, Bge, Jal, Ecall}
 
 -- ---- which instructions have a word
 
@@ -23,6 +23,9 @@ abbrev pub Fits : Instr → Type 0
 Fits (Lui rd imm) = IsRegister rd × (imm < 2 ^ 20)
 Fits (Addi rd rs1 imm) = IsRegister rd × IsRegister rs1 × IsWithin 2048 imm
 Fits (Add rd rs1 rs2) = IsRegister rd × IsRegister rs1 × IsRegister rs2
+Fits (Sub rd rs1 rs2) = IsRegister rd × IsRegister rs1 × IsRegister rs2
+Fits (Lw rd rs1 imm) = IsRegister rd × IsRegister rs1 × IsWithin 2048 imm
+Fits (Sw rs1 rs2 imm) = IsRegister rs1 × IsRegister rs2 × IsWithin 2048 imm
 Fits (Blt rs1 rs2 imm) = IsRegister rs1 × IsRegister rs2 × IsWithin 4096 imm × IsEven imm
 Fits (Bge rs1 rs2 imm) = IsRegister rs1 × IsRegister rs2 × IsWithin 4096 imm × IsEven imm
 Fits (Jal rd imm) = IsRegister rd × IsWithin (2 ^ 20) imm × IsEven imm
@@ -59,6 +62,9 @@ sign_extended sign value = if nat_lt value sign then pos value else pos value -�
 abbrev pub i_immediate : ℕ → ℤ
 i_immediate word = sign_extended 2048 (bits word 20 12)
 
+abbrev pub s_immediate : ℕ → ℤ
+s_immediate word = sign_extended 2048 (bits word 25 7 * 32 + bits word 7 5)
+
 abbrev pub u_immediate : ℕ → ℕ
 u_immediate word = bits word 12 20
 
@@ -79,9 +85,12 @@ row_of opcode funct3 funct7 word =
     (if opcode == 0b1101111 then Some (Jal (rd_of word) (j_immediate word)) else
     (if (opcode == 0b1100011) && (funct3 == 0b100) then Some (Blt (rs1_of word) (rs2_of word) (b_immediate word)) else
     (if (opcode == 0b1100011) && (funct3 == 0b101) then Some (Bge (rs1_of word) (rs2_of word) (b_immediate word)) else
+    (if (opcode == 0b0000011) && (funct3 == 0b010) then Some (Lw (rd_of word) (rs1_of word) (i_immediate word)) else
+    (if (opcode == 0b0100011) && (funct3 == 0b010) then Some (Sw (rs1_of word) (rs2_of word) (s_immediate word)) else
     (if (opcode == 0b0010011) && (funct3 == 0b000) then Some (Addi (rd_of word) (rs1_of word) (i_immediate word)) else
     (if (opcode == 0b0110011) && (funct3 == 0b000) && (funct7 == 0b0000000) then Some (Add (rd_of word) (rs1_of word) (rs2_of word)) else
-    (if word == 0x00000073 then Some Ecall else None))))))
+    (if (opcode == 0b0110011) && (funct3 == 0b000) && (funct7 == 0b0100000) then Some (Sub (rd_of word) (rs1_of word) (rs2_of word)) else
+    (if word == 0x00000073 then Some Ecall else None)))))))))
 
 -- the instruction of a word, or none where the word is off the table
 abbrev pub decoded : ℕ → Option Instr
@@ -100,6 +109,10 @@ abbrev pub r_word : (opcode funct3 funct7 rd rs1 rs2 : ℕ) → ℕ
 r_word opcode funct3 funct7 rd rs1 rs2 =
     funct7 * 2 ^ 25 + rs2 * 2 ^ 20 + rs1 * 2 ^ 15 + funct3 * 2 ^ 12 + rd * 2 ^ 7 + opcode
 
+abbrev pub s_word : (opcode funct3 rs1 rs2 : ℕ) → ℤ → ℕ
+s_word opcode funct3 rs1 rs2 imm =
+    part imm 5 7 * 2 ^ 25 + rs2 * 2 ^ 20 + rs1 * 2 ^ 15 + funct3 * 2 ^ 12 + part imm 0 5 * 2 ^ 7 + opcode
+
 abbrev pub b_word : (opcode funct3 rs1 rs2 : ℕ) → ℤ → ℕ
 b_word opcode funct3 rs1 rs2 imm =
     part imm 12 1 * 2 ^ 31 + part imm 5 6 * 2 ^ 25 + rs2 * 2 ^ 20 + rs1 * 2 ^ 15 + funct3 * 2 ^ 12 + part imm 1 4 * 2 ^ 8
@@ -116,6 +129,9 @@ abbrev pub encoded : Instr → ℕ
 encoded (Lui rd imm) = u_word 0b0110111 rd imm
 encoded (Addi rd rs1 imm) = i_word 0b0010011 0b000 rd rs1 imm
 encoded (Add rd rs1 rs2) = r_word 0b0110011 0b000 0b0000000 rd rs1 rs2
+encoded (Sub rd rs1 rs2) = r_word 0b0110011 0b000 0b0100000 rd rs1 rs2
+encoded (Lw rd rs1 imm) = i_word 0b0000011 0b010 rd rs1 imm
+encoded (Sw rs1 rs2 imm) = s_word 0b0100011 0b010 rs1 rs2 imm
 encoded (Blt rs1 rs2 imm) = b_word 0b1100011 0b100 rs1 rs2 imm
 encoded (Bge rs1 rs2 imm) = b_word 0b1100011 0b101 rs1 rs2 imm
 encoded (Jal rd imm) = j_word 0b1101111 rd imm

@@ -1,5 +1,7 @@
 pub mod Endings
+pub mod Entries
 pub mod Instruction
+pub mod Laws
 pub mod Machine
 pub mod Pauses
 pub mod RunsAlike

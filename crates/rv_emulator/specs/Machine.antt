@@ -1,14 +1,14 @@
 -- What the machine does with an image and an input (RISC-V unprivileged specification, RV32I base integer
 -- instruction set), with this project's memory map and environment calls.
-use Rattle.std.specs.Prelude.{ℕ, zero, suc, ◌+◌, ◌-◌, ◌*◌, ◌/◌, ◌%◌, ◌^◌, ℤ, pos, List, [], ◌∷◌, ◌++◌, ◌==◌, nat_lt, int_lt, if◌then◌else◌, Option, Some, None, slice_get, slice_index_or, slice_set, replicate}
-use Rattle.std.specs.Int.{w32, cast_signed, cast_unsigned, int_wrapping_add}
+use Rattle.std.specs.Prelude.{ℕ, zero, suc, ◌+◌, ◌-◌, ◌*◌, ◌/◌, ◌%◌, ◌^◌, ℤ, pos, Bool, ◌&&◌, List, [], ◌∷◌, ◌++◌, ◌==◌, nat_lt, nat_le, int_lt, if◌then◌else◌, Option, Some, None, length, take, drop, slice_get, slice_index_or, slice_set, replicate}
+use Rattle.std.specs.Int.{w32, cast_signed, cast_unsigned, int_wrapping_add, int_wrapping_sub, from_le_bytes, to_le_bytes}
 use Rattle.std.specs.Ordering.{int_eq}
 use Rattle.sat_base.specs.Clip.{low16}
 use Rattle.sat_base.specs.Observation.{Observation, End, Stop, Going, Fault}
 use Rattle.sat_base.specs.declared.machine_fault.MachineFault.{MachineFault}
-use Rattle.sat_base.specs.declared.machine_fault.MachineFault.TheVariants.{Word, Fetch, Jump, Call}
+use Rattle.sat_base.specs.declared.machine_fault.MachineFault.TheVariants.{Word, Fetch, Jump, Load, Store, Align, Call, Input}
 use Rattle.rv_emulator.specs.declared.instruction.Instr.{Instr}
-use Rattle.rv_emulator.specs.declared.instruction.Instr.TheVariants.{Lui, Addi, Add, Blt, Bge, Jal, Ecall}
+use Rattle.rv_emulator.specs.declared.instruction.Instr.TheVariants.{Lui, Addi, Add, Sub, Lw, Sw, Blt, Bge, Jal, Ecall}
 use Rattle.rv_emulator.specs.declared.image.Image.{Image}
 use Rattle.rv_emulator.specs.declared.state.MachineState.{MachineState}
 use Rattle.rv_emulator.specs.declared.state.Ending.{Ending}
@@ -21,6 +21,10 @@ use Rattle.rv_emulator.specs.Instruction.{decoded}
 abbrev pub code_start : ℕ
 code_start = 0x00010000
 
+-- where the data memory begins
+abbrev pub data_start : ℕ
+data_start = 0x10000000
+
 -- before the first instruction all registers are 0
 abbrev pub first_state : Image → List ℤ → MachineState
 first_state image input =
@@ -29,6 +33,19 @@ first_state image input =
 -- the word at a pc, or none where the pc lies outside the code
 abbrev pub fetched : List ℕ → ℕ → Option ℕ
 fetched code pc = if nat_lt pc code_start then None else slice_get code ((pc - code_start) / 4)
+
+-- this many bytes from an address on all lie in the data memory
+abbrev pub is_inside : List ℕ → (address size : ℕ) → Bool
+is_inside memory address size = nat_le data_start address && nat_le (address + size) (data_start + length memory)
+
+-- the word at an address, whose first byte is the lowest
+abbrev pub word_at : List ℕ → (address : ℕ) → ℕ
+word_at memory address = from_le_bytes w32 (take 4 (drop (address - data_start) memory))
+
+-- the four bytes at an address become those of a word, and no other byte changes
+abbrev pub with_word : List ℕ → (address word : ℕ) → List ℕ
+with_word memory address word =
+    take (address - data_start) memory ++ (to_le_bytes w32 word ++ drop (address - data_start + 4) memory)
 
 -- ---- registers and the program counter
 
@@ -44,6 +61,10 @@ next_pc pc = (pc + 4) % 2 ^ 32
 
 abbrev pub target_pc : ℕ → ℤ → ℕ
 target_pc pc imm = (pc + cast_unsigned w32 imm) % 2 ^ 32
+
+-- the address of a register and an immediate
+abbrev pub address_of : MachineState → (rs1 : ℕ) → ℤ → ℕ
+address_of s rs1 imm = (cast_unsigned w32 (register s rs1) + cast_unsigned w32 imm) % 2 ^ 32
 
 -- the weighted count, of which x25 has the upper 32 bits and x24 the lower
 abbrev pub count_of : MachineState → ℕ
@@ -72,16 +93,48 @@ abbrev pub jumps : MachineState → List ℤ → ℤ → Effect
 jumps s registers imm =
     if target_pc s.pc imm % 4 == 0 then Goes (record s { registers = registers; pc = target_pc s.pc imm }) else faults s Jump
 
--- an environment call by the number in x17: 3 writes the low 16 bits of x10, 4 ends the run
+-- an access to this many bytes: their address must be a multiple of their number, and then all of them must lie
+-- in the data memory
+abbrev pub accesses : MachineState → (address size : ℕ) → (outside : MachineFault) → Effect → Effect
+accesses s address size outside effect =
+    if address % size == 0 then (if is_inside s.memory address size then effect else faults s outside) else faults s Align
+
+-- the word at an address into a register, as signed
+abbrev pub loads : MachineState → (rd address : ℕ) → Effect
+loads s rd address = accesses s address 4 Load (sets s rd (cast_signed w32 (word_at s.memory address)))
+
+-- a signed value to the word at an address
+abbrev pub stores : MachineState → (address : ℕ) → ℤ → Effect
+stores s address value =
+    accesses s address 4 Store (Goes (record s { memory = with_word s.memory address (cast_unsigned w32 value); pc = next_pc s.pc }))
+
+-- 1 where a sample is left, else 0
+abbrev pub left_flag : List ℤ → ℤ
+left_flag [] = pos 0
+left_flag (sample ∷ rest) = pos 1
+
+-- the next sample, if there is one, into x10
+abbrev pub takes : MachineState → List ℤ → Effect
+takes s [] = faults s Input
+takes s (sample ∷ rest) = sets (record s { input = rest }) 10 sample
+
+-- an environment call by the number in x17: 1 asks whether a sample is left, 2 takes the next one, 3 writes the
+-- low 16 bits of x10, 4 ends the run, and 5 stops it at the site in x10
 abbrev pub calls : MachineState → ℤ → Effect
 calls s number =
-    if int_eq number (pos 3) then Writes (low16 (register s 10)) (record s { pc = next_pc s.pc }) else
-    (if int_eq number (pos 4) then Ends (Ended (register s 27) (count_of s)) else faults s Call)
+    if int_eq number (pos 1) then sets s 10 (left_flag s.input) else
+    (if int_eq number (pos 2) then takes s s.input else
+    (if int_eq number (pos 3) then Writes (low16 (register s 10)) (record s { pc = next_pc s.pc }) else
+    (if int_eq number (pos 4) then Ends (Ended (register s 27) (count_of s)) else
+    (if int_eq number (pos 5) then Ends (Stopped (cast_unsigned w32 (register s 10))) else faults s Call))))
 
 abbrev pub effect_of : Instr → MachineState → Effect
 effect_of (Lui rd imm) s = sets s rd (cast_signed w32 (imm * 2 ^ 12))
 effect_of (Addi rd rs1 imm) s = sets s rd (int_wrapping_add w32 (register s rs1) imm)
 effect_of (Add rd rs1 rs2) s = sets s rd (int_wrapping_add w32 (register s rs1) (register s rs2))
+effect_of (Sub rd rs1 rs2) s = sets s rd (int_wrapping_sub w32 (register s rs1) (register s rs2))
+effect_of (Lw rd rs1 imm) s = loads s rd (address_of s rs1 imm)
+effect_of (Sw rs1 rs2 imm) s = stores s (address_of s rs1 imm) (register s rs2)
 effect_of (Blt rs1 rs2 imm) s = if int_lt (register s rs1) (register s rs2) then jumps s s.registers imm else goes_on s
 effect_of (Bge rs1 rs2 imm) s = if int_lt (register s rs1) (register s rs2) then goes_on s else jumps s s.registers imm
 effect_of (Jal rd imm) s = jumps s (registers_with s.registers rd (cast_signed w32 (next_pc s.pc))) imm

@@ -1,7 +1,7 @@
 // From a word to its instruction.
 
 ghost use Rattle.std.specs.Prelude.{◌≡◌, ◌+◌, ◌*◌, ◌/◌, ◌%◌, ◌^◌, ◌<◌, ◌≤◌, IfSome};
-ghost use Rattle.rv_emulator.specs.Instruction.{Fits, IsWithin, IsEven, decoded, bits, sign_extended, i_immediate, b_immediate, j_immediate};
+ghost use Rattle.rv_emulator.specs.Instruction.{Fits, IsRegister, IsWithin, IsEven, decoded, bits, opcode, rd_of, rs1_of, rs2_of, sign_extended, i_immediate, s_immediate, b_immediate, j_immediate};
 
 use crate::instruction::Instr;
 
@@ -10,35 +10,98 @@ pub fn decode(word: u32) -> Option<Instr>
     ensures value { result ≡ decoded word }
     ensures fits { IfSome result Fits }
 {
-    let rd = register_at(word, 7);
-    let rs1 = register_at(word, 15);
-    let rs2 = register_at(word, 20);
-    match (bits(word, 0, 7), bits(word, 12, 3), bits(word, 25, 7)) {
-        (0b011_0111, _, _) => Some(Instr::Lui {
-            rd,
+    match bits(word, 0, 7) {
+        0b011_0111 => Some(Instr::Lui {
+            rd: rd_of(word),
             imm: bits(word, 12, 20),
         }),
-        (0b110_1111, _, _) => Some(Instr::Jal {
-            rd,
+        0b110_1111 => Some(Instr::Jal {
+            rd: rd_of(word),
             imm: j_immediate(word),
         }),
-        (0b110_0011, 0b100, _) => Some(Instr::Blt {
-            rs1,
-            rs2,
-            imm: b_immediate(word),
-        }),
-        (0b110_0011, 0b101, _) => Some(Instr::Bge {
-            rs1,
-            rs2,
-            imm: b_immediate(word),
-        }),
-        (0b001_0011, 0b000, _) => Some(Instr::Addi {
-            rd,
-            rs1,
-            imm: i_immediate(word),
-        }),
-        (0b011_0011, 0b000, 0b000_0000) => Some(Instr::Add { rd, rs1, rs2 }),
+        0b110_0011 => branch_row(word),
+        0b000_0011 => load_row(word),
+        0b010_0011 => store_row(word),
+        0b001_0011 => immediate_row(word),
+        0b011_0011 => register_row(word),
         _ if word == 0x0000_0073 => Some(Instr::Ecall),
+        _ => None,
+    }
+}
+
+// The rows of BRANCH.
+fn branch_row(word: u32) -> Option<Instr>
+    requires { opcode word ≡ 0b110_0011 }
+    ensures value { result ≡ decoded word }
+    ensures fits { IfSome result Fits }
+{
+    let rs1 = rs1_of(word);
+    let rs2 = rs2_of(word);
+    let imm = b_immediate(word);
+    match bits(word, 12, 3) {
+        0b100 => Some(Instr::Blt { rs1, rs2, imm }),
+        0b101 => Some(Instr::Bge { rs1, rs2, imm }),
+        _ => None,
+    }
+}
+
+// The rows of LOAD.
+fn load_row(word: u32) -> Option<Instr>
+    requires { opcode word ≡ 0b000_0011 }
+    ensures value { result ≡ decoded word }
+    ensures fits { IfSome result Fits }
+{
+    let rd = rd_of(word);
+    let rs1 = rs1_of(word);
+    let imm = i_immediate(word);
+    match bits(word, 12, 3) {
+        0b010 => Some(Instr::Lw { rd, rs1, imm }),
+        _ => None,
+    }
+}
+
+// The rows of STORE.
+fn store_row(word: u32) -> Option<Instr>
+    requires { opcode word ≡ 0b010_0011 }
+    ensures value { result ≡ decoded word }
+    ensures fits { IfSome result Fits }
+{
+    let rs1 = rs1_of(word);
+    let rs2 = rs2_of(word);
+    let imm = s_immediate(word);
+    match bits(word, 12, 3) {
+        0b010 => Some(Instr::Sw { rs1, rs2, imm }),
+        _ => None,
+    }
+}
+
+// The rows of OP-IMM.
+fn immediate_row(word: u32) -> Option<Instr>
+    requires { opcode word ≡ 0b001_0011 }
+    ensures value { result ≡ decoded word }
+    ensures fits { IfSome result Fits }
+{
+    let rd = rd_of(word);
+    let rs1 = rs1_of(word);
+    let imm = i_immediate(word);
+    match bits(word, 12, 3) {
+        0b000 => Some(Instr::Addi { rd, rs1, imm }),
+        _ => None,
+    }
+}
+
+// The rows of OP.
+fn register_row(word: u32) -> Option<Instr>
+    requires { opcode word ≡ 0b011_0011 }
+    ensures value { result ≡ decoded word }
+    ensures fits { IfSome result Fits }
+{
+    let rd = rd_of(word);
+    let rs1 = rs1_of(word);
+    let rs2 = rs2_of(word);
+    match (bits(word, 12, 3), bits(word, 25, 7)) {
+        (0b000, 0b000_0000) => Some(Instr::Add { rd, rs1, rs2 }),
+        (0b000, 0b010_0000) => Some(Instr::Sub { rd, rs1, rs2 }),
         _ => None,
     }
 }
@@ -53,13 +116,25 @@ fn bits(word: u32, low: u32, count: u32) -> u32
     (word >> low) % (1 << count)
 }
 
-// The register whose number begins at the bit `low`.
-fn register_at(word: u32, low: u32) -> u8
-    requires { low ≤ 27 }
-    ensures value { result ≡ bits word low 5 }
-    ensures fits { result < 32 }
+fn rd_of(word: u32) -> u8
+    ensures value { result ≡ rd_of word }
+    ensures fits { IsRegister result }
 {
-    bits(word, low, 5) as u8
+    bits(word, 7, 5) as u8
+}
+
+fn rs1_of(word: u32) -> u8
+    ensures value { result ≡ rs1_of word }
+    ensures fits { IsRegister result }
+{
+    bits(word, 15, 5) as u8
+}
+
+fn rs2_of(word: u32) -> u8
+    ensures value { result ≡ rs2_of word }
+    ensures fits { IsRegister result }
+{
+    bits(word, 20, 5) as u8
 }
 
 // A field whose uppermost bit, worth `sign`, is a sign.
@@ -81,6 +156,13 @@ fn i_immediate(word: u32) -> i32
     ensures fits { IsWithin 2048 result }
 {
     sign_extended(2048, bits(word, 20, 12))
+}
+
+fn s_immediate(word: u32) -> i32
+    ensures value { result ≡ s_immediate word }
+    ensures fits { IsWithin 2048 result }
+{
+    sign_extended(2048, bits(word, 25, 7) * 32 + bits(word, 7, 5))
 }
 
 fn b_immediate(word: u32) -> i32

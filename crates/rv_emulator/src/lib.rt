@@ -6,8 +6,11 @@ pub mod decoding;
 pub mod encoding;
 pub mod image;
 pub mod instruction;
+pub mod laws;
 pub mod machine;
+pub mod memory;
 pub mod pause;
+pub mod samples;
 pub mod state;
 mod step;
 
@@ -18,3 +21,6 @@ pub use instruction::Instr;
 pub use machine::Machine;
 pub use pause::Pause;
 pub use sat_base::MachineFault;
+
+#[cfg(test)]
+mod tests;

@@ -4,7 +4,9 @@ ghost use Rattle.std.specs.Prelude.{◌≡◌, ◌-◌, ◌≤◌, ◌<◌, List
 ghost use Rattle.rv_emulator.specs.Pauses.{IsRun, loaded};
 
 use crate::image::Image;
+use crate::memory::DataMemory;
 use crate::pause::Pause;
+use crate::samples::Samples;
 use crate::state::{Ending, MachineState};
 use crate::step::{CODE_START, Step, carry_out};
 use sat_base::Memory;
@@ -39,8 +41,8 @@ impl Machine {
             state: MachineState {
                 registers: [0; 32],
                 pc: CODE_START,
-                memory: Items::from_slice(alloc, image.memory.as_slice())?,
-                input: Items::from_slice(alloc, input)?,
+                memory: DataMemory::from_slice(alloc, image.memory.as_slice())?,
+                input: Samples::from_slice(alloc, input)?,
             },
             ending: None,
         })

@@ -1,15 +1,16 @@
 // The state of the machine.
 
+use crate::memory::DataMemory;
+use crate::samples::Samples;
 use sat_base::MachineFault;
-use sqlite_items::Items;
 
 /// The registers x0 to x31, the program counter, the data memory, and the samples that are left.
 #[derive(Debug, Drop)]
 pub struct MachineState {
     pub registers: [i32; 32],
     pub pc: u32,
-    pub memory: Items<u8>,
-    pub input: Items<i16>,
+    pub memory: DataMemory,
+    pub input: Samples,
 }
 
 /// How a run was over.

@@ -3,7 +3,7 @@
 ghost use Rattle.std.specs.Prelude.{◌≡◌, if◌then◌else◌};
 ghost use Rattle.sat_base.specs.Clip.{low16};
 ghost use Rattle.rv_emulator.specs.Instruction.{Fits, IsRegister};
-ghost use Rattle.rv_emulator.specs.Machine.{fetched, register, registers_with, count_of, stepped, effect_of, sets, jumps, goes_on, faults};
+ghost use Rattle.rv_emulator.specs.Machine.{fetched, register, registers_with, count_of, stepped, effect_of, sets, jumps, goes_on, faults, address_of, loads, stores};
 ghost use Rattle.rv_emulator.specs.Steps.{as_effect};
 
 use crate::decoding::decode;
@@ -55,6 +55,19 @@ fn execute(instr: Instr, state: &mut MachineState) -> Step
         Instr::Add { rd, rs1, rs2 } => {
             let sum = read(state, rs1).wrapping_add(read(state, rs2));
             set(state, rd, sum)
+        }
+        Instr::Sub { rd, rs1, rs2 } => {
+            let difference = read(state, rs1).wrapping_sub(read(state, rs2));
+            set(state, rd, difference)
+        }
+        Instr::Lw { rd, rs1, imm } => {
+            let address = address(state, rs1, imm);
+            load(state, rd, address)
+        }
+        Instr::Sw { rs1, rs2, imm } => {
+            let address = address(state, rs1, imm);
+            let value = read(state, rs2);
+            store(state, address, value)
         }
         Instr::Blt { rs1, rs2, imm } => {
             let taken = read(state, rs1) < read(state, rs2);
@@ -123,11 +136,55 @@ fn link(state: &mut MachineState, rd: u8, imm: i32) -> Step
     Step::Goes
 }
 
+// The address of a register and an immediate.
+fn address(state: &MachineState, rs1: u8, imm: i32) -> u32
+    requires { IsRegister rs1 }
+    ensures { result ≡ address_of state.now rs1 imm }
+{
+    read(state, rs1).cast_unsigned().wrapping_add_signed(imm)
+}
+
+fn load(state: &mut MachineState, rd: u8, address: u32) -> Step
+    requires { IsRegister rd }
+    ensures { as_effect result state.new ≡ loads state.old rd address }
+{
+    if address % 4 != 0 {
+        return fault(state, MachineFault::Align);
+    }
+    if !state.memory.has(address, 4) {
+        return fault(state, MachineFault::Load);
+    }
+    let word = state.memory.word_at(address);
+    set(state, rd, word.cast_signed())
+}
+
+fn store(state: &mut MachineState, address: u32, value: i32) -> Step
+    ensures { as_effect result state.new ≡ stores state.old address value }
+{
+    if address % 4 != 0 {
+        return fault(state, MachineFault::Align);
+    }
+    if !state.memory.has(address, 4) {
+        return fault(state, MachineFault::Store);
+    }
+    state.memory.set_word(address, value.cast_unsigned());
+    state.pc = state.pc.wrapping_add(4);
+    Step::Goes
+}
+
 // An environment call, by the number in x17.
 fn call(state: &mut MachineState) -> Step
     ensures { as_effect result state.new ≡ effect_of Instr.Ecall state.old }
 {
     match read(state, 17) {
+        1 => {
+            let left = i32::from(!state.input.is_empty());
+            set(state, 10, left)
+        }
+        2 => match state.input.pop_front() {
+            Some(sample) => set(state, 10, i32::from(sample)),
+            None => fault(state, MachineFault::Input),
+        },
         3 => {
             let sample = sample(state);
             state.pc = state.pc.wrapping_add(4);
@@ -136,6 +193,9 @@ fn call(state: &mut MachineState) -> Step
         4 => Step::Ends(Ending::Ended {
             overflow: read(state, 27),
             count: count(state),
+        }),
+        5 => Step::Ends(Ending::Stopped {
+            site: read(state, 10).cast_unsigned(),
         }),
         _ => fault(state, MachineFault::Call),
     }

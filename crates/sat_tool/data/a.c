@@ -1,5 +1,5 @@
 int main(void)
 {
-  sample_out(add(32767, 1));
+  sample_out(sub(add(32767, 1), 32767));
   return 0;
 }

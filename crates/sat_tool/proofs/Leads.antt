@@ -1,22 +1,21 @@
 -- How the machine comes from one moment to another over the code of a source.
-use Rattle.std.proofs.Common.{◌≡◌, ℕ, ◌+◌, ◌*◌, ◌^◌, min, ◌<◌, ℤ, pos, negsuc, ◌+ℤ◌, Bool, true, false, not, List, [], ◌∷◌, Some, refl, sym, ap, ◌∙◌, arith, int_lt, FitsSigned}
-use Rattle.std.specs.Int.{w32, cast_signed, int_wrapping_add}
-use Rattle.std.proofs.lemmas.Int.{ints, clamps}
-use Rattle.std.proofs.lemmas.Bool.Decides.{Decides-int_eq}
-use Rattle.sat_base.specs.Clip.{clip16}
-use Rattle.c_reader.specs.Form.{IsOperand}
-use Rattle.c_reader.specs.Meaning.{add_value, add_raises}
+use Rattle.std.proofs.Common.{◌≡◌, ℕ, ◌+◌, ◌*◌, ◌%◌, ◌≤◌, ℤ, pos, Bool, List, [], ◌∷◌, ◌==◌, if◌then◌else◌, Some, refl, ap, ◌∙◌, subst}
+use Rattle.std.specs.Prelude.{slice_get}
+use Rattle.sat_base.specs.declared.machine_fault.MachineFault.TheVariants.{Jump}
 use Rattle.rv_emulator.specs.declared.state.MachineState.{MachineState}
 use Rattle.rv_emulator.specs.declared.instruction.Instr.{Instr}
-use Rattle.rv_emulator.specs.Instruction.{IsWithin, decoded, encoded}
-use Rattle.rv_emulator.specs.Machine.{Running, Moment, moment, moment_after, after_effect, effect_of, executed, carried_out, fetched}
+use Rattle.rv_emulator.specs.Instruction.{decoded, encoded}
+use Rattle.rv_emulator.specs.Machine.{Running, Goes, Moment, moment, moment_after, after_effect, effect_of, executed, carried_out, jumps, faults, next_pc}
 use Rattle.rv_emulator.proofs.Alike.{moment_after_add}
-use Rattle.sat_tool.specs.Emission.{upper_of, lower_of}
+use Rattle.sat_tool.proofs.Places.{place, most_words, fetched_at, next_place, target_place, whole_place}
 
 -- the machine comes from one moment to the other
 pub record Leads (code : List ℕ) (from to : Moment) : Type 0 where
   pub steps : ℕ
   pub by : moment_after code steps from ≡ to
+
+pub leads_nowhere : (code : List ℕ) (a : Moment) → Leads code a a
+leads_nowhere code a = record { steps = 0; by = refl }
 
 pub leads_then : (code : List ℕ) (a b c : Moment) → Leads code a b → Leads code b c → Leads code a c
 leads_then code a b c l m = record {
@@ -24,15 +23,7 @@ leads_then code a b c l m = record {
   by = moment_after_add code l.steps m.steps a ∙ ap (moment_after code m.steps) l.by ∙ m.by;
 }
 
--- one instruction
-pub leads_by : (code : List ℕ) (instr : Instr) (s : MachineState) (output : List ℤ) → fetched code s.pc ≡ Some (encoded instr) → decoded (encoded instr) ≡ Some instr
-    → Leads code (moment (Running s) output) (after_effect (effect_of instr s) output)
-leads_by code instr s output at is = record {
-  steps = 1;
-  by = ap (λ o. after_effect (executed o s) output) at ∙ ap (λ o. after_effect (carried_out o s) output) is;
-}
-
--- the registers that the code uses; all others stay 0
+-- the registers that the code uses once x26 is set; all others stay 0
 pub record File : Type 0 where
   pub x5 : ℤ
   pub x6 : ℤ
@@ -49,62 +40,49 @@ zero_file = record { x5 = pos 0; x6 = pos 0; x8 = pos 0; x9 = pos 0; x10 = pos 0
 abbrev pub registers_of : File → List ℤ
 registers_of f =
     pos 0 ∷ pos 0 ∷ pos 0 ∷ pos 0 ∷ pos 0 ∷ f.x5 ∷ f.x6 ∷ pos 0 ∷ f.x8 ∷ f.x9 ∷ f.x10 ∷ pos 0 ∷ pos 0 ∷ pos 0 ∷ pos 0 ∷ pos 0
-    ∷ pos 0 ∷ f.x17 ∷ pos 0 ∷ pos 0 ∷ pos 0 ∷ pos 0 ∷ pos 0 ∷ pos 0 ∷ f.x24 ∷ pos 0 ∷ pos 0 ∷ f.x27 ∷ pos 0 ∷ pos 0 ∷ pos 0 ∷ pos 0 ∷ []
+    ∷ pos 0 ∷ f.x17 ∷ pos 0 ∷ pos 0 ∷ pos 0 ∷ pos 0 ∷ pos 0 ∷ pos 0 ∷ f.x24 ∷ pos 0 ∷ pos 0x10000000 ∷ f.x27 ∷ pos 0 ∷ pos 0 ∷ pos 0 ∷ pos 0 ∷ []
 
-abbrev pub here : ℕ → File → List ℤ → MachineState
-here pc f input = record { registers = registers_of f; pc = pc; memory = []; input = input }
+-- the machine before the word of this number
+abbrev pub here : List ℤ → ℕ → File → List ℕ → MachineState
+here input k f memory = record { registers = registers_of f; pc = place k; memory = memory; input = input }
 
--- ---- numbers
+abbrev pub at : List ℤ → List ℤ → ℕ → File → List ℕ → Moment
+at input output k f memory = moment (Running (here input k f memory)) output
 
--- both parts of a number, added up, are the number
-pub parts_add_up : (n : ℤ) → IsOperand n → int_wrapping_add w32 (cast_signed w32 (upper_of n * 2 ^ 12)) (lower_of n) ≡ n
-parts_add_up n (m, is, small) = grind (arith, ints)
+module _ (code : List ℕ) (input output : List ℤ) where
+  -- the same place by another number
+  pub leads_to_same : (from : Moment) (k j : ℕ) (f : File) (memory : List ℕ) → k ≡ j → Leads code from (at input output k f memory) → Leads code from (at input output j f memory)
+  leads_to_same from k j f memory e l = subst (λ n. Leads code from (at input output n f memory)) e l
 
-pub upper_small : (n : ℤ) → IsOperand n → upper_of n < 2 ^ 20
-upper_small n (m, is, small) = grind (arith, ints)
+  pub leads_from_same : (to : Moment) (k j : ℕ) (f : File) (memory : List ℕ) → k ≡ j → Leads code (at input output k f memory) to → Leads code (at input output j f memory) to
+  leads_from_same to k j f memory e l = subst (λ n. Leads code (at input output n f memory) to) e l
 
-pub lower_within : (n : ℤ) → IsOperand n → IsWithin 2048 (lower_of n)
-lower_within n (m, is, small) = grind (arith, ints)
+  module _ (k i : ℕ) (instr : Instr) (f : File) (memory : List ℕ) (stands : slice_get code (k + i) ≡ Some (encoded instr)) (decodes : decoded (encoded instr) ≡ Some instr) where
+    -- one instruction
+    pub leads_by : Leads code (at input output (k + i) f memory) (after_effect (effect_of instr (here input (k + i) f memory)) output)
+    leads_by =
+        let s = here input (k + i) f memory in record {
+          steps = 1;
+          by = ap (λ o. after_effect (executed o s) output) (fetched_at code (k + i) ∙ stands) ∙ ap (λ o. after_effect (carried_out o s) output) decodes;
+        }
 
-pub sum_is : (a b : ℤ) → IsOperand a → IsOperand b → int_wrapping_add w32 a b ≡ a +ℤ b
-sum_is a b (m, is_a, small_a) (n, is_b, small_b) = grind (arith, ints)
+    -- one that goes on with other registers and another memory
+    pub leads_on : (g : File) (new : List ℕ) → k + i ≤ most_words
+        → effect_of instr (here input (k + i) f memory) ≡ Goes (record (here input (k + i) g new) { pc = next_pc (place (k + i)) })
+        → Leads code (at input output (k + i) f memory) (at input output (k + (i + 1)) g new)
+    leads_on g new small e =
+        subst (λ p. Leads code (at input output (k + i) f memory) (moment (Running (record (here input (k + i) g new) { pc = p })) output)) (next_place k i small)
+        (subst (λ effect. Leads code (at input output (k + i) f memory) (after_effect effect output)) e leads_by)
 
-clip_none : (s : ℤ) → int_lt s (pos 32768) ≡ true → int_lt s (negsuc 32767) ≡ false → clip16 s ≡ s
-clip_none s high low = grind (arith, ints, clamps)
-
-clip_high : (s : ℤ) → int_lt s (pos 32768) ≡ false → clip16 s ≡ pos 32767
-clip_high s high = grind (arith, ints, clamps)
-
-pub not_low : (a b : ℤ) → IsOperand a → IsOperand b → int_lt (a +ℤ b) (negsuc 32767) ≡ false
-not_low a b (m, is_a, small_a) (n, is_b, small_b) = grind (arith, ints)
-
-is_false : (b : Bool) → (b ≡ true → ⊥) → b ≡ false
-is_false true h = absurd (h refl)
-is_false false h = refl
-
--- a sum that is not above the range of 16 bits is not clipped, and raises nothing
-pub added_plainly : (a b : ℤ) → IsOperand a → IsOperand b → int_lt (a +ℤ b) (pos 32768) ≡ true → (add_value a b ≡ a +ℤ b) × (add_raises a b ≡ false)
-added_plainly a b p q high =
-    let same = clip_none (a +ℤ b) high (not_low a b p q) in
-    (same, ap not ((Decides-int_eq (clip16 (a +ℤ b)) (a +ℤ b)).1 same))
-
--- a sum above it is clipped to the greatest number, and raises
-pub added_clipped : (a b : ℤ) → int_lt (a +ℤ b) (pos 32768) ≡ false → (add_value a b ≡ pos 32767) × (add_raises a b ≡ true)
-added_clipped a b high =
-    let clipped = clip_high (a +ℤ b) high in
-    let other : (clip16 (a +ℤ b) ≡ a +ℤ b) → ⊥ = λ same. let at : a +ℤ b ≡ pos 32767 = sym same ∙ clipped in grind (arith, ints) in
-    (clipped, ap not (is_false _ (λ e. other ((Decides-int_eq (clip16 (a +ℤ b)) (a +ℤ b)).0 e))))
-
-pub plus_zero : (v : ℤ) → FitsSigned w32 v → int_wrapping_add w32 v (pos 0) ≡ v
-plus_zero v fits = grind (arith, ints)
-
-pub operand_fits : (n : ℤ) → IsOperand n → FitsSigned w32 n
-operand_fits n (m, is, small) = grind (arith, ints)
-
--- a clipped sum of operands is one too
-pub sum_is_operand : (a b : ℤ) → IsOperand a → IsOperand b → IsOperand (add_value a b)
-sum_is_operand a b (m, is_a, small_a) (n, is_b, small_b) =
-    (min (m + n) 32767, sum_is_least m n a b is_a is_b, omega arith)
-  where
-    sum_is_least : (m n : ℕ) (a b : ℤ) → a ≡ pos m → b ≡ pos n → clip16 (a +ℤ b) ≡ pos (min (m + n) 32767)
-    sum_is_least m n a b is_a is_b = grind (arith, ints, clamps)
+    -- one that jumps forward over this many words
+    pub leads_over : (m : ℕ) (g : File) → k + i ≤ most_words → m ≤ 1000
+        → effect_of instr (here input (k + i) f memory) ≡ jumps (here input (k + i) f memory) (registers_of g) (pos (4 * m))
+        → Leads code (at input output (k + i) f memory) (at input output (k + (i + m)) g memory)
+    leads_over m g small short e =
+        subst (λ effect. Leads code (at input output (k + i) f memory) (after_effect effect output)) (e ∙ jumps_to) leads_by
+      where
+        jumps_to : jumps (here input (k + i) f memory) (registers_of g) (pos (4 * m)) ≡ Goes (here input (k + (i + m)) g memory)
+        jumps_to =
+            let s = here input (k + i) f memory in
+            ap (λ p. if p % 4 == 0 then Goes (record s { registers = registers_of g; pc = p }) else faults s Jump) (target_place k i m small short)
+            ∙ ap (λ (b : Bool). if b then Goes (here input (k + (i + m)) g memory) else faults s Jump) (whole_place (k + (i + m)))

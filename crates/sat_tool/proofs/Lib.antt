@@ -1,5 +1,12 @@
+pub mod Bounds
 pub mod Compiled
+pub mod Entries
+pub mod Evaluation
+pub mod Expressions
 pub mod Headline
 pub mod Leads
+pub mod Operators
+pub mod Places
 pub mod Serving
 pub mod Simulation
+pub mod Storage

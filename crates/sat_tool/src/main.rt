@@ -3,6 +3,10 @@
 
 mod compile;
 mod emit;
+#[cfg(test)]
+mod failure_tests;
+#[cfg(test)]
+mod image_tests;
 mod job;
 mod line;
 mod outcome;

@@ -1,11 +1,8 @@
 // Whole runs of the program over a store and a sink in memory.
 
-use crate::compile::compile;
 use crate::satc::satc;
-use rv_emulator::{Machine, Pause};
 use sqlite_items::Items;
 use std::alloc::Global;
-use std::process::Abort;
 use std::test::Fail;
 use store_io::{CalmSink, CalmStore, Entry};
 
@@ -14,6 +11,12 @@ const CLIP: &str = "int main(void)\n{\n  sample_out(add(32767, 1));\n  return 0;
 
 /// A source that writes nothing.
 const NOTHING: &str = "int main(void){return 0;}";
+
+/// Calls nested 17 deep.
+const TOO_DEEP: &str = "int main(void){sample_out(add(add(add(add(add(add(add(add(add(add(add(add(\
+add(add(add(add(add(1,1),1),1),1),1),1),1),1),1),1),1),1),1),1),1),1),1));return 0;}";
+
+const USAGE: &str = "usage: satc build SRC IMG\n";
 
 // What a run on these words leaves in the sink, over a store that has this source as `a.c`.
 fn told(alloc: Global, source: &[u8], words: &[&str]) -> Result<(u8, CalmSink, CalmStore), Fail> {
@@ -35,79 +38,32 @@ fn told(alloc: Global, source: &[u8], words: &[&str]) -> Result<(u8, CalmSink, C
 fn builds_and_refuses(rt: HostRuntime) -> Result<(), Fail> {
     let alloc = rt.alloc();
     let build: &[&str] = &["build", "a.c", "a.img"];
+    let clipped_twice = "int main(void){sample_out(sub(add(32767, 1), 32767));return 0;}";
+    let two = "int main(void){sample_out(7);sample_out(add(1,sub(2,3)));return 0;}";
+    let not_closed = "int main(void){sample_out(add(1,2);return 0;}";
     for (source, words, status, text) in [
         (CLIP, build, 0, "sites 1\n"),
         (NOTHING, build, 0, "sites 0\n"),
-        (
-            "int main(void){sample_out(7);return 0;}",
-            build,
-            0,
-            "sites 0\n",
-        ),
+        (clipped_twice, build, 0, "sites 2\n"),
+        (two, build, 0, "sites 2\n"),
         ("", build, 1, "error 1:1 not yet\n"),
+        (not_closed, build, 1, "error 1:1 not yet\n"),
+        (TOO_DEEP, build, 1, "error 1:1 not yet\n"),
         ("int main(void){return 1;}", build, 1, "error 1:1 not yet\n"),
         (CLIP, &["build", "b.c", "a.img"], 4, "missing b.c\n"),
-        (CLIP, &[], 2, "usage: satc build SRC IMG\n"),
-        (CLIP, &["--help"], 2, "usage: satc build SRC IMG\n"),
-        (CLIP, &["build"], 2, "usage: satc build SRC IMG\n"),
-        (CLIP, &["build", "a.c"], 2, "usage: satc build SRC IMG\n"),
-        (
-            CLIP,
-            &["build", "", "a.img"],
-            2,
-            "usage: satc build SRC IMG\n",
-        ),
-        (
-            CLIP,
-            &["build", "a.c", "-o"],
-            2,
-            "usage: satc build SRC IMG\n",
-        ),
-        (
-            CLIP,
-            &["build", "a.c", "a.img", "x"],
-            2,
-            "usage: satc build SRC IMG\n",
-        ),
+        (CLIP, &[], 2, USAGE),
+        (CLIP, &["--help"], 2, USAGE),
+        (CLIP, &["build"], 2, USAGE),
+        (CLIP, &["build", "a.c"], 2, USAGE),
+        (CLIP, &["build", "", "a.img"], 2, USAGE),
+        (CLIP, &["build", "a.c", "-o"], 2, USAGE),
+        (CLIP, &["build", "a.c", "a.img", "x"], 2, USAGE),
     ] {
         let (answer, out, store) = told(alloc, source.as_bytes(), words)?;
         assert_eq!(rt; answer, status, "{source:?}");
         assert_eq!(rt; out.bytes(), text.as_bytes(), "{source:?}");
         assert_eq!(rt; store.file("a.img").is_some(), status == 0, "{source:?}");
     }
-    Ok(())
-}
-
-// The image of a source, loaded.
-fn machine(alloc: Global, source: &[u8]) -> Result<Machine, Fail> {
-    let built = match compile(alloc, source) {
-        Ok(built) => built,
-        Err(refusal) => return Err(Fail::from(refusal)),
-    };
-    Ok(Machine::load(alloc, &built.image, &[])?)
-}
-
-#[test]
-fn images_run_as_their_sources(rt: HostRuntime) -> Result<(), Fail> {
-    let mut machine = machine(rt.alloc(), CLIP.as_bytes())?;
-    let mut left = 100;
-    assert_eq!(rt; machine.run(&mut left), Pause::Wrote(32767));
-    let ended = Pause::Ended {
-        overflow: 1,
-        count: 1,
-    };
-    assert_eq!(rt; machine.run(&mut left), ended);
-    Ok(())
-}
-
-#[test]
-fn an_empty_main_ends_at_once(rt: HostRuntime) -> Result<(), Fail> {
-    let mut machine = machine(rt.alloc(), NOTHING.as_bytes())?;
-    let ended = Pause::Ended {
-        overflow: 0,
-        count: 0,
-    };
-    assert_eq!(rt; machine.run(&mut 100), ended);
     Ok(())
 }
 
