@@ -2,7 +2,7 @@
 use Rattle.std.proofs.Common.{◌≡◌, ℕ, zero, suc, ◌+◌, ◌-◌, ◌<◌, ◌≤◌, ◌⊎◌, inl, inr, ⊎_elim, ℤ, List, [], ◌∷◌, ◌++◌, refl, sym, ap, ◌∙◌, subst, arith, append-nil, append_assoc}
 use Rattle.std.proofs.lemmas.Bool.{cases_lt}
 use Rattle.sat_base.specs.Observation.{Observation, End, Going, output_of}
-use Rattle.rv_emulator.specs.declared.image.Image.{Image}
+use Rattle.image_format.specs.declared.image.Image.{Image}
 use Rattle.rv_emulator.specs.declared.state.Ending.{Ending}
 use Rattle.rv_emulator.specs.declared.state.Ending.TheVariants.{Ended}
 use Rattle.rv_emulator.specs.Machine.{Effect, Goes, Writes, Ends, Situation, Running, Over, Moment, moment, moment_after, next_moment, after_effect, stepped, observation, observation_of, first_state, machine_observed}

@@ -1,4 +1,3 @@
 pub mod Alike
 pub mod Moments
 pub mod Stores
-pub mod Words

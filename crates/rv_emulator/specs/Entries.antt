@@ -1,7 +1,7 @@
 -- The sites that a run enters.
 use Rattle.std.specs.Prelude.{ℕ, zero, suc, ◌+◌, ◌*◌, ℤ, Bool, false, not, ◌&&◌, ◌==◌, nat_le, nat_lt, if◌then◌else◌, List, [], ◌∷◌, ◌++◌, Option, Some, None, is_some}
-use Rattle.rv_emulator.specs.declared.image.Image.{Image}
-use Rattle.rv_emulator.specs.declared.image.SiteEntry.{SiteEntry}
+use Rattle.image_format.specs.declared.image.Image.{Image}
+use Rattle.image_format.specs.declared.image.SiteEntry.{SiteEntry}
 use Rattle.rv_emulator.specs.Machine.{Situation, Running, Over, code_start, first_state, fetched, moment, next_moment}
 
 -- the pc of the entry's first word

@@ -1,16 +1,6 @@
--- Laws of the words of instructions, of the data memory, and of runs.
-use Rattle.std.specs.Prelude.{◌≡◌, ℕ, ◌+◌, ◌^◌, ◌<◌, ◌≤◌, ◌⊎◌, IsTrue, List, Some}
-use Rattle.rv_emulator.specs.declared.instruction.Instr.{Instr}
-use Rattle.rv_emulator.specs.Instruction.{Fits, decoded, encoded}
+-- Laws of the data memory and of runs.
+use Rattle.std.specs.Prelude.{◌≡◌, ℕ, ◌+◌, ◌^◌, ◌<◌, ◌≤◌, ◌⊎◌, IsTrue, List}
 use Rattle.rv_emulator.specs.Machine.{Moment, is_inside, moment_after, with_word, word_at}
-
--- the word of an instruction is decoded to it
-abbrev pub EncodedDecodes : Type 0
-EncodedDecodes = (i : Instr) → Fits i → decoded (encoded i) ≡ Some i
-
--- an instruction that a word is decoded to has that word, and fields in their ranges
-abbrev pub DecodedEncodes : Type 0
-DecodedEncodes = (w : ℕ) (i : Instr) → w < 2 ^ 32 → decoded w ≡ Some i → Fits i × (encoded i ≡ w)
 
 -- the word that is stored at an address is loaded from it
 abbrev pub StoredIsLoaded : Type 0

@@ -1,6 +1,6 @@
+pub mod Arithmetic
 pub mod Endings
 pub mod Entries
-pub mod Instruction
 pub mod Laws
 pub mod Machine
 pub mod Pauses

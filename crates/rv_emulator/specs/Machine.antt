@@ -1,19 +1,20 @@
 -- What the machine does with an image and an input (RISC-V unprivileged specification, RV32I base integer
--- instruction set), with this project's memory map and environment calls.
-use Rattle.std.specs.Prelude.{ℕ, zero, suc, ◌+◌, ◌-◌, ◌*◌, ◌/◌, ◌%◌, ◌^◌, ℤ, pos, Bool, ◌&&◌, List, [], ◌∷◌, ◌++◌, ◌==◌, nat_lt, nat_le, int_lt, if◌then◌else◌, Option, Some, None, length, take, drop, slice_get, slice_index_or, slice_set, replicate}
-use Rattle.std.specs.Int.{w32, cast_signed, cast_unsigned, int_wrapping_add, int_wrapping_sub, from_le_bytes, to_le_bytes}
+-- instruction set and M extension), with this project's memory map and environment calls.
+use Rattle.std.specs.Prelude.{ℕ, zero, suc, ◌+◌, ◌-◌, ◌*◌, ◌/◌, ◌%◌, ◌^◌, ℤ, pos, Bool, true, false, ◌&&◌, List, [], ◌∷◌, ◌++◌, ◌==◌, nat_lt, nat_le, int_lt, if◌then◌else◌, Option, Some, None, length, take, drop, slice_get, slice_index_or, slice_set, replicate}
+use Rattle.std.specs.Int.{w8, w16, w32, cast_signed, cast_unsigned, int_wrapping_add, int_wrapping_sub, int_wrapping_mul, int_bit_and, int_bit_or, int_bit_xor, from_le_bytes, to_le_bytes}
 use Rattle.std.specs.Ordering.{int_eq}
 use Rattle.sat_base.specs.Clip.{low16}
 use Rattle.sat_base.specs.Observation.{Observation, End, Stop, Going, Fault}
 use Rattle.sat_base.specs.declared.machine_fault.MachineFault.{MachineFault}
-use Rattle.sat_base.specs.declared.machine_fault.MachineFault.TheVariants.{Word, Fetch, Jump, Load, Store, Align, Call, Input}
-use Rattle.rv_emulator.specs.declared.instruction.Instr.{Instr}
-use Rattle.rv_emulator.specs.declared.instruction.Instr.TheVariants.{Lui, Addi, Add, Sub, Lw, Sw, Blt, Bge, Jal, Ecall}
-use Rattle.rv_emulator.specs.declared.image.Image.{Image}
+use Rattle.sat_base.specs.declared.machine_fault.MachineFault.TheVariants.{Word, Fetch, Jump, Load, Store, Align, Break, Call, Input}
+use Rattle.rv_encode.specs.declared.instruction.Instr.{Instr}
+use Rattle.rv_encode.specs.declared.instruction.Instr.TheVariants.{Lui, Auipc, Jal, Jalr, Beq, Bne, Blt, Bge, Bltu, Bgeu, Lb, Lh, Lw, Lbu, Lhu, Sb, Sh, Sw, Addi, Slti, Sltiu, Xori, Ori, Andi, Slli, Srli, Srai, Add, Sll, Slt, Sltu, Xor, Srl, Or, And, Sub, Sra, Mul, Mulh, Mulhsu, Mulhu, Div, Divu, Rem, Remu, Fence, Ecall, Ebreak}
+use Rattle.rv_encode.specs.Decoding.{decoded}
+use Rattle.image_format.specs.declared.image.Image.{Image}
 use Rattle.rv_emulator.specs.declared.state.MachineState.{MachineState}
 use Rattle.rv_emulator.specs.declared.state.Ending.{Ending}
 use Rattle.rv_emulator.specs.declared.state.Ending.TheVariants.{Ended, Stopped, Faulted}
-use Rattle.rv_emulator.specs.Instruction.{decoded}
+use Rattle.rv_emulator.specs.Arithmetic.{flag_of, is_below, amount_of, shifted_left, shifted_right, shifted_right_signed, upper_product, upper_product_mixed, upper_product_unsigned, quotient, remainder, quotient_unsigned, remainder_unsigned}
 
 -- ---- the memory map
 
@@ -46,6 +47,20 @@ word_at memory address = from_le_bytes w32 (take 4 (drop (address - data_start) 
 abbrev pub with_word : List ℕ → (address word : ℕ) → List ℕ
 with_word memory address word =
     take (address - data_start) memory ++ (to_le_bytes w32 word ++ drop (address - data_start + 4) memory)
+
+-- the same of two bytes and of one
+abbrev pub half_at : List ℕ → (address : ℕ) → ℕ
+half_at memory address = from_le_bytes w16 (take 2 (drop (address - data_start) memory))
+
+abbrev pub with_half : List ℕ → (address half : ℕ) → List ℕ
+with_half memory address half =
+    take (address - data_start) memory ++ (to_le_bytes w16 half ++ drop (address - data_start + 2) memory)
+
+abbrev pub byte_at : List ℕ → (address : ℕ) → ℕ
+byte_at memory address = slice_index_or memory (address - data_start) 0
+
+abbrev pub with_byte : List ℕ → (address byte : ℕ) → List ℕ
+with_byte memory address byte = slice_set memory (address - data_start) byte
 
 -- ---- registers and the program counter
 
@@ -88,10 +103,18 @@ goes_on s = Goes (record s { pc = next_pc s.pc })
 abbrev pub faults : MachineState → MachineFault → Effect
 faults s kind = Ends (Faulted s.pc kind)
 
--- a jump, which the pc of the jump and these registers make; its target must be a multiple of 4
+-- a jump to a target, with these registers; the target must be a multiple of 4
+abbrev pub jumps_to : MachineState → List ℤ → (target : ℕ) → Effect
+jumps_to s registers target =
+    if target % 4 == 0 then Goes (record s { registers = registers; pc = target }) else faults s Jump
+
+-- a jump by a distance from the pc
 abbrev pub jumps : MachineState → List ℤ → ℤ → Effect
-jumps s registers imm =
-    if target_pc s.pc imm % 4 == 0 then Goes (record s { registers = registers; pc = target_pc s.pc imm }) else faults s Jump
+jumps s registers imm = jumps_to s registers (target_pc s.pc imm)
+
+-- the registers with the address of the next instruction in rd
+abbrev pub linked : MachineState → (rd : ℕ) → List ℤ
+linked s rd = registers_with s.registers rd (cast_signed w32 (next_pc s.pc))
 
 -- an access to this many bytes: their address must be a multiple of their number, and then all of them must lie
 -- in the data memory
@@ -103,10 +126,31 @@ accesses s address size outside effect =
 abbrev pub loads : MachineState → (rd address : ℕ) → Effect
 loads s rd address = accesses s address 4 Load (sets s rd (cast_signed w32 (word_at s.memory address)))
 
--- a signed value to the word at an address
+-- two bytes and one byte at an address into a register, as signed or as unsigned
+abbrev pub loads_half : MachineState → (rd address : ℕ) → (signed : Bool) → Effect
+loads_half s rd address signed =
+    let half = half_at s.memory address in
+    accesses s address 2 Load (sets s rd (if signed then cast_signed w16 half else pos half))
+
+abbrev pub loads_byte : MachineState → (rd address : ℕ) → (signed : Bool) → Effect
+loads_byte s rd address signed =
+    let byte = byte_at s.memory address in accesses s address 1 Load (sets s rd (if signed then cast_signed w8 byte else pos byte))
+
+-- a memory, and the next instruction
+abbrev pub remembers : MachineState → List ℕ → Effect
+remembers s memory = Goes (record s { memory = memory; pc = next_pc s.pc })
+
+-- a signed value to the word at an address, and its low bits to two bytes and to one
 abbrev pub stores : MachineState → (address : ℕ) → ℤ → Effect
-stores s address value =
-    accesses s address 4 Store (Goes (record s { memory = with_word s.memory address (cast_unsigned w32 value); pc = next_pc s.pc }))
+stores s address value = accesses s address 4 Store (remembers s (with_word s.memory address (cast_unsigned w32 value)))
+
+abbrev pub stores_half : MachineState → (address : ℕ) → ℤ → Effect
+stores_half s address value =
+    accesses s address 2 Store (remembers s (with_half s.memory address (cast_unsigned w32 value % 2 ^ 16)))
+
+abbrev pub stores_byte : MachineState → (address : ℕ) → ℤ → Effect
+stores_byte s address value =
+    accesses s address 1 Store (remembers s (with_byte s.memory address (cast_unsigned w32 value % 2 ^ 8)))
 
 -- 1 where a sample is left, else 0
 abbrev pub left_flag : List ℤ → ℤ
@@ -128,17 +172,56 @@ calls s number =
     (if int_eq number (pos 4) then Ends (Ended (register s 27) (count_of s)) else
     (if int_eq number (pos 5) then Ends (Stopped (cast_unsigned w32 (register s 10))) else faults s Call))))
 
+-- one line for each instruction
 abbrev pub effect_of : Instr → MachineState → Effect
 effect_of (Lui rd imm) s = sets s rd (cast_signed w32 (imm * 2 ^ 12))
-effect_of (Addi rd rs1 imm) s = sets s rd (int_wrapping_add w32 (register s rs1) imm)
-effect_of (Add rd rs1 rs2) s = sets s rd (int_wrapping_add w32 (register s rs1) (register s rs2))
-effect_of (Sub rd rs1 rs2) s = sets s rd (int_wrapping_sub w32 (register s rs1) (register s rs2))
-effect_of (Lw rd rs1 imm) s = loads s rd (address_of s rs1 imm)
-effect_of (Sw rs1 rs2 imm) s = stores s (address_of s rs1 imm) (register s rs2)
+effect_of (Auipc rd imm) s = sets s rd (cast_signed w32 ((s.pc + imm * 2 ^ 12) % 2 ^ 32))
+effect_of (Jal rd imm) s = jumps s (linked s rd) imm
+effect_of (Jalr rd rs1 imm) s = let address = address_of s rs1 imm in jumps_to s (linked s rd) (address - address % 2)
+effect_of (Beq rs1 rs2 imm) s = if int_eq (register s rs1) (register s rs2) then jumps s s.registers imm else goes_on s
+effect_of (Bne rs1 rs2 imm) s = if int_eq (register s rs1) (register s rs2) then goes_on s else jumps s s.registers imm
 effect_of (Blt rs1 rs2 imm) s = if int_lt (register s rs1) (register s rs2) then jumps s s.registers imm else goes_on s
 effect_of (Bge rs1 rs2 imm) s = if int_lt (register s rs1) (register s rs2) then goes_on s else jumps s s.registers imm
-effect_of (Jal rd imm) s = jumps s (registers_with s.registers rd (cast_signed w32 (next_pc s.pc))) imm
+effect_of (Bltu rs1 rs2 imm) s = if is_below (register s rs1) (register s rs2) then jumps s s.registers imm else goes_on s
+effect_of (Bgeu rs1 rs2 imm) s = if is_below (register s rs1) (register s rs2) then goes_on s else jumps s s.registers imm
+effect_of (Lb rd rs1 imm) s = loads_byte s rd (address_of s rs1 imm) true
+effect_of (Lh rd rs1 imm) s = loads_half s rd (address_of s rs1 imm) true
+effect_of (Lw rd rs1 imm) s = loads s rd (address_of s rs1 imm)
+effect_of (Lbu rd rs1 imm) s = loads_byte s rd (address_of s rs1 imm) false
+effect_of (Lhu rd rs1 imm) s = loads_half s rd (address_of s rs1 imm) false
+effect_of (Sb rs1 rs2 imm) s = stores_byte s (address_of s rs1 imm) (register s rs2)
+effect_of (Sh rs1 rs2 imm) s = stores_half s (address_of s rs1 imm) (register s rs2)
+effect_of (Sw rs1 rs2 imm) s = stores s (address_of s rs1 imm) (register s rs2)
+effect_of (Addi rd rs1 imm) s = sets s rd (int_wrapping_add w32 (register s rs1) imm)
+effect_of (Slti rd rs1 imm) s = sets s rd (flag_of (int_lt (register s rs1) imm))
+effect_of (Sltiu rd rs1 imm) s = sets s rd (flag_of (is_below (register s rs1) imm))
+effect_of (Xori rd rs1 imm) s = sets s rd (int_bit_xor w32 (register s rs1) imm)
+effect_of (Ori rd rs1 imm) s = sets s rd (int_bit_or w32 (register s rs1) imm)
+effect_of (Andi rd rs1 imm) s = sets s rd (int_bit_and w32 (register s rs1) imm)
+effect_of (Slli rd rs1 imm) s = sets s rd (shifted_left (register s rs1) imm)
+effect_of (Srli rd rs1 imm) s = sets s rd (shifted_right (register s rs1) imm)
+effect_of (Srai rd rs1 imm) s = sets s rd (shifted_right_signed (register s rs1) imm)
+effect_of (Add rd rs1 rs2) s = sets s rd (int_wrapping_add w32 (register s rs1) (register s rs2))
+effect_of (Sll rd rs1 rs2) s = sets s rd (shifted_left (register s rs1) (amount_of (register s rs2)))
+effect_of (Slt rd rs1 rs2) s = sets s rd (flag_of (int_lt (register s rs1) (register s rs2)))
+effect_of (Sltu rd rs1 rs2) s = sets s rd (flag_of (is_below (register s rs1) (register s rs2)))
+effect_of (Xor rd rs1 rs2) s = sets s rd (int_bit_xor w32 (register s rs1) (register s rs2))
+effect_of (Srl rd rs1 rs2) s = sets s rd (shifted_right (register s rs1) (amount_of (register s rs2)))
+effect_of (Or rd rs1 rs2) s = sets s rd (int_bit_or w32 (register s rs1) (register s rs2))
+effect_of (And rd rs1 rs2) s = sets s rd (int_bit_and w32 (register s rs1) (register s rs2))
+effect_of (Sub rd rs1 rs2) s = sets s rd (int_wrapping_sub w32 (register s rs1) (register s rs2))
+effect_of (Sra rd rs1 rs2) s = sets s rd (shifted_right_signed (register s rs1) (amount_of (register s rs2)))
+effect_of (Mul rd rs1 rs2) s = sets s rd (int_wrapping_mul w32 (register s rs1) (register s rs2))
+effect_of (Mulh rd rs1 rs2) s = sets s rd (upper_product (register s rs1) (register s rs2))
+effect_of (Mulhsu rd rs1 rs2) s = sets s rd (upper_product_mixed (register s rs1) (register s rs2))
+effect_of (Mulhu rd rs1 rs2) s = sets s rd (upper_product_unsigned (register s rs1) (register s rs2))
+effect_of (Div rd rs1 rs2) s = sets s rd (quotient (register s rs1) (register s rs2))
+effect_of (Divu rd rs1 rs2) s = sets s rd (quotient_unsigned (register s rs1) (register s rs2))
+effect_of (Rem rd rs1 rs2) s = sets s rd (remainder (register s rs1) (register s rs2))
+effect_of (Remu rd rs1 rs2) s = sets s rd (remainder_unsigned (register s rs1) (register s rs2))
+effect_of (Fence fields) s = goes_on s
 effect_of Ecall s = calls s (register s 17)
+effect_of Ebreak s = faults s Break
 
 -- what happens at a word that was fetched, and at a word that is or is not in the table
 abbrev pub carried_out : Option Instr → MachineState → Effect

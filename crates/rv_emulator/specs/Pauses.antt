@@ -1,6 +1,6 @@
 -- What one call of `run` does, and what it answers.
 use Rattle.std.specs.Prelude.{◌≡◌, ℕ, ◌-◌, ◌<◌, ◌≤◌, ℤ, List, [], ◌∷◌, ◌++◌, Option, Some, None}
-use Rattle.rv_emulator.specs.declared.image.Image.{Image}
+use Rattle.image_format.specs.declared.image.Image.{Image}
 use Rattle.rv_emulator.specs.declared.state.MachineState.{MachineState}
 use Rattle.rv_emulator.specs.declared.state.Ending.{Ending}
 use Rattle.rv_emulator.specs.declared.state.Ending.TheVariants as endings

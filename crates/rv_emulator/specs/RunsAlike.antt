@@ -2,7 +2,7 @@
 use Rattle.std.specs.Prelude.{◌≡◌, ◌≢◌, ℕ, ◌≤◌, ℤ, pos, negsuc, ◌≤ℤ◌, List, ◌++◌, All}
 use Rattle.sat_base.specs.Observation.{Observation, End, Stop, Going, Fault, output_of}
 use Rattle.sat_base.specs.declared.machine_fault.MachineFault.{MachineFault}
-use Rattle.rv_emulator.specs.declared.image.Image.{Image}
+use Rattle.image_format.specs.declared.image.Image.{Image}
 use Rattle.rv_emulator.specs.Machine.{machine_observed}
 
 -- samples of 16 bits

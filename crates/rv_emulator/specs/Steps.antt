@@ -1,7 +1,7 @@
 -- What a step of the code stands for.
 use Rattle.rv_emulator.specs.declared.state.MachineState.{MachineState}
-use Rattle.rv_emulator.specs.declared.step.Step.{Step}
-use Rattle.rv_emulator.specs.declared.step.Step.TheVariants as steps
+use Rattle.rv_emulator.specs.declared.effects.Step.{Step}
+use Rattle.rv_emulator.specs.declared.effects.Step.TheVariants as steps
 use Rattle.rv_emulator.specs.Machine.{Effect, Goes, Writes, Ends}
 
 -- the effect, with the state that stands beside it

@@ -1,16 +1,6 @@
-// What follows from the definitions of words, of the data memory and of runs alone.
+// What follows from the definitions of the data memory and of runs alone.
 
-ghost use Rattle.rv_emulator.specs.Laws.{EncodedDecodes, DecodedEncodes, StoredIsLoaded, OthersStay, RunsCompose};
-
-/// The word of an instruction whose fields are in their ranges is decoded to that instruction.
-pub fn encoded_decodes()
-    ensures { EncodedDecodes }
-{}
-
-/// An instruction that a word is decoded to has that word, and fields in their ranges.
-pub fn decoded_encodes()
-    ensures { DecodedEncodes }
-{}
+ghost use Rattle.rv_emulator.specs.Laws.{StoredIsLoaded, OthersStay, RunsCompose};
 
 /// The word that is stored at an address is loaded from it.
 pub fn stored_is_loaded()

@@ -3,12 +3,13 @@
 ghost use Rattle.std.specs.Prelude.{◌≡◌, ◌-◌, ◌≤◌, ◌<◌, List, IfOk};
 ghost use Rattle.rv_emulator.specs.Pauses.{IsRun, loaded};
 
-use crate::image::Image;
+use crate::effects::Step;
 use crate::memory::DataMemory;
 use crate::pause::Pause;
 use crate::samples::Samples;
 use crate::state::{Ending, MachineState};
-use crate::step::{CODE_START, Step, carry_out};
+use crate::step::{CODE_START, carry_out};
+use image_format::Image;
 use sat_base::Memory;
 use sqlite_items::Items;
 use std::alloc::Global;

@@ -1,7 +1,7 @@
 // The data memory.
 
 ghost use Rattle.std.specs.Prelude.{◌≡◌, ◌+◌, ◌<◌, IfOk, IsTrue};
-ghost use Rattle.rv_emulator.specs.Machine.{is_inside, word_at, with_word};
+ghost use Rattle.rv_emulator.specs.Machine.{is_inside, word_at, with_word, half_at, with_half, byte_at, with_byte};
 
 use std::alloc::{AllocError, Global};
 use std::marker::Model;
@@ -64,5 +64,39 @@ impl DataMemory {
     {
         let place = (address - DATA_START) as usize;
         self.bytes[place..place + 4].copy_from_slice(&word.to_le_bytes());
+    }
+
+    /// The two bytes at an address.
+    pub fn half_at(&self, address: u32) -> u16
+        requires { IsTrue (is_inside self.now address 2) }
+        ensures { result ≡ half_at self.now address }
+    {
+        let place = (address - DATA_START) as usize;
+        u16::from_le_bytes([self.bytes[place], self.bytes[place + 1]])
+    }
+
+    /// Writes two bytes at an address.
+    pub fn set_half(&mut self, address: u32, half: u16)
+        requires { IsTrue (is_inside self.old address 2) }
+        ensures { self.new ≡ with_half self.old address half }
+    {
+        let place = (address - DATA_START) as usize;
+        self.bytes[place..place + 2].copy_from_slice(&half.to_le_bytes());
+    }
+
+    /// The byte at an address.
+    pub fn byte_at(&self, address: u32) -> u8
+        requires { IsTrue (is_inside self.now address 1) }
+        ensures { result ≡ byte_at self.now address }
+    {
+        self.bytes[(address - DATA_START) as usize]
+    }
+
+    /// Writes a byte at an address.
+    pub fn set_byte(&mut self, address: u32, byte: u8)
+        requires { IsTrue (is_inside self.old address 1) }
+        ensures { self.new ≡ with_byte self.old address byte }
+    {
+        self.bytes[(address - DATA_START) as usize] = byte;
     }
 }

@@ -1,36 +1,32 @@
 // One instruction of the machine.
 
 ghost use Rattle.std.specs.Prelude.{◌≡◌, if◌then◌else◌};
-ghost use Rattle.sat_base.specs.Clip.{low16};
-ghost use Rattle.rv_emulator.specs.Instruction.{Fits, IsRegister};
-ghost use Rattle.rv_emulator.specs.Machine.{fetched, register, registers_with, count_of, stepped, effect_of, sets, jumps, goes_on, faults, address_of, loads, stores};
+ghost use Rattle.rv_encode.specs.Words.{Fits};
+ghost use Rattle.rv_emulator.specs.Machine.{fetched, stepped, effect_of};
 ghost use Rattle.rv_emulator.specs.Steps.{as_effect};
 
-use crate::decoding::decode;
-use crate::instruction::Instr;
-use crate::state::{Ending, MachineState};
-use sat_base::{MachineFault, low16};
+use crate::arithmetic::{
+    amount_of, flag, is_below, quotient, quotient_unsigned, remainder, remainder_unsigned,
+    shifted_left, shifted_right, shifted_right_signed, upper_product, upper_product_mixed,
+    upper_product_unsigned,
+};
+use crate::effects::Step;
+use crate::state::MachineState;
+use rv_encode::{Instr, decode};
+use sat_base::MachineFault;
 
 /// Where the code begins.
 pub const CODE_START: u32 = 0x0001_0000;
-
-/// What one instruction did; the state that it left stands beside it.
-#[derive(Clone, Copy, Debug, PartialEq, Eq)]
-pub enum Step {
-    Goes,
-    Writes(i16),
-    Ends(Ending),
-}
 
 /// Carries out the instruction at the pc.
 pub fn carry_out(code: &[u32], state: &mut MachineState) -> Step
     ensures { as_effect result state.new ≡ stepped code.now state.old }
 {
     let Some(word) = fetch(code, state.pc) else {
-        return fault(state, MachineFault::Fetch);
+        return state.fault(MachineFault::Fetch);
     };
     let Some(instr) = decode(word) else {
-        return fault(state, MachineFault::Word);
+        return state.fault(MachineFault::Word);
     };
     execute(instr, state)
 }
@@ -47,177 +43,86 @@ fn execute(instr: Instr, state: &mut MachineState) -> Step
     ensures { as_effect result state.new ≡ effect_of instr state.old }
 {
     match instr {
-        Instr::Lui { rd, imm } => set(state, rd, (imm << 12).cast_signed()),
-        Instr::Addi { rd, rs1, imm } => {
-            let sum = read(state, rs1).wrapping_add(imm);
-            set(state, rd, sum)
-        }
-        Instr::Add { rd, rs1, rs2 } => {
-            let sum = read(state, rs1).wrapping_add(read(state, rs2));
-            set(state, rd, sum)
-        }
-        Instr::Sub { rd, rs1, rs2 } => {
-            let difference = read(state, rs1).wrapping_sub(read(state, rs2));
-            set(state, rd, difference)
-        }
-        Instr::Lw { rd, rs1, imm } => {
-            let address = address(state, rs1, imm);
-            load(state, rd, address)
-        }
-        Instr::Sw { rs1, rs2, imm } => {
-            let address = address(state, rs1, imm);
-            let value = read(state, rs2);
-            store(state, address, value)
-        }
-        Instr::Blt { rs1, rs2, imm } => {
-            let taken = read(state, rs1) < read(state, rs2);
-            branch(state, taken, imm)
-        }
-        Instr::Bge { rs1, rs2, imm } => {
-            let taken = read(state, rs1) >= read(state, rs2);
-            branch(state, taken, imm)
-        }
-        Instr::Jal { rd, imm } => link(state, rd, imm),
-        Instr::Ecall => call(state),
+        Instr::Lui { rd, imm } => state.set(rd, (imm << 12).cast_signed()),
+        Instr::Auipc { rd, imm } => state.set(rd, state.pc.wrapping_add(imm << 12).cast_signed()),
+        Instr::Jal { rd, imm } => state.link(rd, imm),
+        Instr::Jalr { rd, rs1, imm } => state.jump_to_register(rd, rs1, imm),
+        Instr::Beq { rs1, rs2, imm } => state.branch(state.read(rs1) == state.read(rs2), imm),
+        Instr::Bne { rs1, rs2, imm } => state.branch(state.read(rs1) != state.read(rs2), imm),
+        Instr::Blt { rs1, rs2, imm } => state.branch(state.read(rs1) < state.read(rs2), imm),
+        Instr::Bge { rs1, rs2, imm } => state.branch(state.read(rs1) >= state.read(rs2), imm),
+        Instr::Bltu { rs1, rs2, imm } => state.branch(
+            is_below(state.read(rs1), state.read(rs2)),
+            imm,
+        ),
+        Instr::Bgeu { rs1, rs2, imm } => state.branch(
+            !is_below(state.read(rs1), state.read(rs2)),
+            imm,
+        ),
+        Instr::Lb { rd, rs1, imm } => state.load_byte(rd, state.address(rs1, imm), true),
+        Instr::Lh { rd, rs1, imm } => state.load_half(rd, state.address(rs1, imm), true),
+        Instr::Lw { rd, rs1, imm } => state.load(rd, state.address(rs1, imm)),
+        Instr::Lbu { rd, rs1, imm } => state.load_byte(rd, state.address(rs1, imm), false),
+        Instr::Lhu { rd, rs1, imm } => state.load_half(rd, state.address(rs1, imm), false),
+        Instr::Sb { rs1, rs2, imm } => state.store_byte(state.address(rs1, imm), state.read(rs2)),
+        Instr::Sh { rs1, rs2, imm } => state.store_half(state.address(rs1, imm), state.read(rs2)),
+        Instr::Sw { rs1, rs2, imm } => state.store(state.address(rs1, imm), state.read(rs2)),
+        Instr::Addi { rd, rs1, imm } => state.set(rd, state.read(rs1).wrapping_add(imm)),
+        Instr::Slti { rd, rs1, imm } => state.set(rd, flag(state.read(rs1) < imm)),
+        Instr::Sltiu { rd, rs1, imm } => state.set(rd, flag(is_below(state.read(rs1), imm))),
+        Instr::Xori { rd, rs1, imm } => state.set(rd, state.read(rs1) ^ imm),
+        Instr::Ori { rd, rs1, imm } => state.set(rd, state.read(rs1) | imm),
+        Instr::Andi { rd, rs1, imm } => state.set(rd, state.read(rs1) & imm),
+        Instr::Slli { rd, rs1, imm } => state.set(rd, shifted_left(state.read(rs1), imm)),
+        Instr::Srli { rd, rs1, imm } => state.set(rd, shifted_right(state.read(rs1), imm)),
+        Instr::Srai { rd, rs1, imm } => state.set(rd, shifted_right_signed(state.read(rs1), imm)),
+        Instr::Add { rd, rs1, rs2 } => state.set(rd, state.read(rs1).wrapping_add(state.read(rs2))),
+        Instr::Sll { rd, rs1, rs2 } => state.set(
+            rd,
+            shifted_left(state.read(rs1), amount_of(state.read(rs2))),
+        ),
+        Instr::Slt { rd, rs1, rs2 } => state.set(rd, flag(state.read(rs1) < state.read(rs2))),
+        Instr::Sltu { rd, rs1, rs2 } => state.set(
+            rd,
+            flag(is_below(state.read(rs1), state.read(rs2))),
+        ),
+        Instr::Xor { rd, rs1, rs2 } => state.set(rd, state.read(rs1) ^ state.read(rs2)),
+        Instr::Srl { rd, rs1, rs2 } => state.set(
+            rd,
+            shifted_right(state.read(rs1), amount_of(state.read(rs2))),
+        ),
+        Instr::Or { rd, rs1, rs2 } => state.set(rd, state.read(rs1) | state.read(rs2)),
+        Instr::And { rd, rs1, rs2 } => state.set(rd, state.read(rs1) & state.read(rs2)),
+        Instr::Sub { rd, rs1, rs2 } => state.set(rd, state.read(rs1).wrapping_sub(state.read(rs2))),
+        Instr::Sra { rd, rs1, rs2 } => state.set(
+            rd,
+            shifted_right_signed(state.read(rs1), amount_of(state.read(rs2))),
+        ),
+        Instr::Mul { rd, rs1, rs2 } => state.set(rd, state.read(rs1).wrapping_mul(state.read(rs2))),
+        Instr::Mulh { rd, rs1, rs2 } => state.set(
+            rd,
+            upper_product(state.read(rs1), state.read(rs2)),
+        ),
+        Instr::Mulhsu { rd, rs1, rs2 } => state.set(
+            rd,
+            upper_product_mixed(state.read(rs1), state.read(rs2)),
+        ),
+        Instr::Mulhu { rd, rs1, rs2 } => state.set(
+            rd,
+            upper_product_unsigned(state.read(rs1), state.read(rs2)),
+        ),
+        Instr::Div { rd, rs1, rs2 } => state.set(rd, quotient(state.read(rs1), state.read(rs2))),
+        Instr::Divu { rd, rs1, rs2 } => state.set(
+            rd,
+            quotient_unsigned(state.read(rs1), state.read(rs2)),
+        ),
+        Instr::Rem { rd, rs1, rs2 } => state.set(rd, remainder(state.read(rs1), state.read(rs2))),
+        Instr::Remu { rd, rs1, rs2 } => state.set(
+            rd,
+            remainder_unsigned(state.read(rs1), state.read(rs2)),
+        ),
+        Instr::Fence { .. } => state.proceed(),
+        Instr::Ecall => state.call(),
+        Instr::Ebreak => state.fault(MachineFault::Break),
     }
-}
-
-fn read(state: &MachineState, number: u8) -> i32
-    requires { IsRegister number }
-    ensures { result ≡ register state.now number }
-{
-    state.registers[usize::from(number)]
-}
-
-fn write(registers: &mut [i32; 32], rd: u8, value: i32)
-    requires { IsRegister rd }
-    ensures { registers.new ≡ registers_with registers.old rd value }
-{
-    if rd != 0 {
-        registers[usize::from(rd)] = value;
-    }
-}
-
-fn set(state: &mut MachineState, rd: u8, value: i32) -> Step
-    requires { IsRegister rd }
-    ensures { as_effect result state.new ≡ sets state.old rd value }
-{
-    write(&mut state.registers, rd, value);
-    state.pc = state.pc.wrapping_add(4);
-    Step::Goes
-}
-
-fn branch(state: &mut MachineState, taken: bool, imm: i32) -> Step
-    ensures { as_effect result state.new ≡ (if taken then jumps state.old state.old.registers imm else goes_on state.old) }
-{
-    if !taken {
-        state.pc = state.pc.wrapping_add(4);
-        return Step::Goes;
-    }
-    let target = state.pc.wrapping_add_signed(imm);
-    if target % 4 != 0 {
-        return fault(state, MachineFault::Jump);
-    }
-    state.pc = target;
-    Step::Goes
-}
-
-fn link(state: &mut MachineState, rd: u8, imm: i32) -> Step
-    requires { IsRegister rd }
-    ensures { as_effect result state.new ≡ effect_of (Instr.Jal rd imm) state.old }
-{
-    let target = state.pc.wrapping_add_signed(imm);
-    if target % 4 != 0 {
-        return fault(state, MachineFault::Jump);
-    }
-    let next = state.pc.wrapping_add(4);
-    write(&mut state.registers, rd, next.cast_signed());
-    state.pc = target;
-    Step::Goes
-}
-
-// The address of a register and an immediate.
-fn address(state: &MachineState, rs1: u8, imm: i32) -> u32
-    requires { IsRegister rs1 }
-    ensures { result ≡ address_of state.now rs1 imm }
-{
-    read(state, rs1).cast_unsigned().wrapping_add_signed(imm)
-}
-
-fn load(state: &mut MachineState, rd: u8, address: u32) -> Step
-    requires { IsRegister rd }
-    ensures { as_effect result state.new ≡ loads state.old rd address }
-{
-    if address % 4 != 0 {
-        return fault(state, MachineFault::Align);
-    }
-    if !state.memory.has(address, 4) {
-        return fault(state, MachineFault::Load);
-    }
-    let word = state.memory.word_at(address);
-    set(state, rd, word.cast_signed())
-}
-
-fn store(state: &mut MachineState, address: u32, value: i32) -> Step
-    ensures { as_effect result state.new ≡ stores state.old address value }
-{
-    if address % 4 != 0 {
-        return fault(state, MachineFault::Align);
-    }
-    if !state.memory.has(address, 4) {
-        return fault(state, MachineFault::Store);
-    }
-    state.memory.set_word(address, value.cast_unsigned());
-    state.pc = state.pc.wrapping_add(4);
-    Step::Goes
-}
-
-// An environment call, by the number in x17.
-fn call(state: &mut MachineState) -> Step
-    ensures { as_effect result state.new ≡ effect_of Instr.Ecall state.old }
-{
-    match read(state, 17) {
-        1 => {
-            let left = i32::from(!state.input.is_empty());
-            set(state, 10, left)
-        }
-        2 => match state.input.pop_front() {
-            Some(sample) => set(state, 10, i32::from(sample)),
-            None => fault(state, MachineFault::Input),
-        },
-        3 => {
-            let sample = sample(state);
-            state.pc = state.pc.wrapping_add(4);
-            Step::Writes(sample)
-        }
-        4 => Step::Ends(Ending::Ended {
-            overflow: read(state, 27),
-            count: count(state),
-        }),
-        5 => Step::Ends(Ending::Stopped {
-            site: read(state, 10).cast_unsigned(),
-        }),
-        _ => fault(state, MachineFault::Call),
-    }
-}
-
-// The sample that a call writes.
-fn sample(state: &MachineState) -> i16
-    ensures { result ≡ low16 (register state.now 10) }
-{
-    low16(read(state, 10)) as i16
-}
-
-fn count(state: &MachineState) -> u64
-    ensures { result ≡ count_of state.now }
-{
-    let upper = u64::from(read(state, 25).cast_unsigned());
-    let lower = u64::from(read(state, 24).cast_unsigned());
-    upper * 4_294_967_296 + lower
-}
-
-fn fault(state: &MachineState, kind: MachineFault) -> Step
-    ensures { as_effect result state.now ≡ faults state.now kind }
-{
-    Step::Ends(Ending::Faulted { pc: state.pc, kind })
 }

@@ -1,5 +1,6 @@
 use super::*;
-use MachineFault::{Align, Call, Fetch, Input, Jump, Load, Store, Word};
+use MachineFault::{Align, Break, Call, Fetch, Input, Jump, Load, Store, Word};
+use image_format::Image;
 use sat_base::Memory;
 use sqlite_items::Items;
 use std::test::Fail;
@@ -17,111 +18,6 @@ fn machine(rt: &HostRuntime, code: &[u32], input: &[i16]) -> Result<Machine, Mem
 
 fn fault(pc: u32, kind: MachineFault) -> Pause {
     Pause::Fault { pc, kind }
-}
-
-#[test]
-fn words(rt: HostRuntime) {
-    let rows: [(u32, Instr); 12] = [
-        (
-            0xffff_ffb7,
-            Instr::Lui {
-                rd: 31,
-                imm: 0xf_ffff,
-            },
-        ),
-        (
-            0x0050_0093,
-            Instr::Addi {
-                rd: 1,
-                rs1: 0,
-                imm: 5,
-            },
-        ),
-        (
-            0x01df_0fb3,
-            Instr::Add {
-                rd: 31,
-                rs1: 30,
-                rs2: 29,
-            },
-        ),
-        (
-            0x4031_00b3,
-            Instr::Sub {
-                rd: 1,
-                rs1: 2,
-                rs2: 3,
-            },
-        ),
-        (
-            0x8000_af83,
-            Instr::Lw {
-                rd: 31,
-                rs1: 1,
-                imm: -2048,
-            },
-        ),
-        (
-            0x0051_2423,
-            Instr::Sw {
-                rs1: 2,
-                rs2: 5,
-                imm: 8,
-            },
-        ),
-        (
-            0x81f0_a023,
-            Instr::Sw {
-                rs1: 1,
-                rs2: 31,
-                imm: -2048,
-            },
-        ),
-        (
-            0xfe55_4ee3,
-            Instr::Blt {
-                rs1: 10,
-                rs2: 5,
-                imm: -4,
-            },
-        ),
-        (
-            0x0020_d0e3,
-            Instr::Bge {
-                rs1: 1,
-                rs2: 2,
-                imm: 2048,
-            },
-        ),
-        (0x0010_00ef, Instr::Jal { rd: 1, imm: 2048 }),
-        (
-            0x8000_0fef,
-            Instr::Jal {
-                rd: 31,
-                imm: -1_048_576,
-            },
-        ),
-        (0x0000_0073, Instr::Ecall),
-    ];
-    for (word, instr) in rows {
-        let decoded = decode(word);
-        assert_eq!(rt; decoded, Some(instr), "at {word:#x}");
-        assert_eq!(rt; decoded.map(encode), Some(word), "at {word:#x}");
-    }
-    // No word; EBREAK; MUL; BEQ, LB, SB and SLLI; ECALL with a register.
-    for word in [
-        0,
-        0xffff_ffff,
-        0x0010_0073,
-        0x0231_00b3,
-        0x0020_8063,
-        0x0000_0503,
-        0x0051_0423,
-        0x0050_1093,
-        0x0000_00f3,
-    ] {
-        assert_eq!(rt; decode(word), None, "at {word:#x}");
-    }
 }
 
 /// Each program leaves a value in x10, and then stops at the site of that number.
@@ -231,12 +127,12 @@ fn values(rt: HostRuntime) -> Result<(), Fail> {
 
 #[test]
 fn faults(rt: HostRuntime) -> Result<(), Fail> {
-    let cases: [(&str, &[u32], Pause); 20] = [
+    let cases: [(&str, &[u32], Pause); 30] = [
         ("word", &[0], fault(0x0001_0000, Word)),
         (
             "ebreak",
             &[0x0000_0513, 0x0010_0073],
-            fault(0x0001_0004, Word),
+            fault(0x0001_0004, Break),
         ),
         ("no code", &[], fault(0x0001_0000, Fetch)),
         ("past the code", &[0x0000_0513], fault(0x0001_0004, Fetch)),
@@ -284,6 +180,28 @@ fn faults(rt: HostRuntime) -> Result<(), Fail> {
             "sw within, not aligned",
             &[0x1000_0137, 0x0001_2123],
             fault(0x0001_0004, Align),
+        ),
+        ("csrrw", &[0x0000_1073], fault(0x0001_0000, Word)),
+        (
+            "jalr to a half-word",
+            &[0x0020_00e7],
+            fault(0x0001_0000, Jump),
+        ),
+        ("lh of 1", &[0x0010_1503], fault(0x0001_0000, Align)),
+        ("sh of 3", &[0x0000_11a3], fault(0x0001_0000, Align)),
+        ("lb of 0", &[0x0000_0503], fault(0x0001_0000, Load)),
+        ("lhu of 0", &[0x0000_5503], fault(0x0001_0000, Load)),
+        ("sb of 0", &[0x0000_0023], fault(0x0001_0000, Store)),
+        ("sh of 0", &[0x0000_1023], fault(0x0001_0000, Store)),
+        (
+            "lb over the end",
+            &[0x1000_0137, 0x00a1_0503],
+            fault(0x0001_0004, Load),
+        ),
+        (
+            "sb over the end",
+            &[0x1000_0137, 0x0001_0523],
+            fault(0x0001_0004, Store),
         ),
         ("call 0", &[0x0000_0073], fault(0x0001_0000, Call)),
         (

@@ -5,12 +5,14 @@
 pub mod clip;
 pub mod limits;
 pub mod machine_fault;
+pub mod name;
 pub mod position;
 pub mod refusal;
 pub mod width;
 
 pub use clip::{clip16, clip32, low16};
 pub use machine_fault::MachineFault;
+pub use name::{At, Name, Named};
 pub use position::Pos;
 pub use refusal::Memory;
 pub use width::Width;

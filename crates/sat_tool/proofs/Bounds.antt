@@ -7,10 +7,10 @@ use Rattle.sat_base.specs.declared.position.Pos.{Pos}
 use Rattle.c_reader.specs.declared.first.First.{First}
 use Rattle.c_reader.specs.declared.first.FirstExpr.{FirstExpr, Int, Add', Sub', more_of-FirstExpr as boxed}
 use Rattle.c_reader.specs.Form.{Spells, IsPlaced, ArePlaced, call_pieces, expression_pieces, statement_pieces, opening_pieces, closing_pieces, pieces_of}
-use Rattle.rv_emulator.specs.declared.image.SiteEntry.{SiteEntry}
-use Rattle.rv_emulator.specs.declared.instruction.Instr.{Instr}
-use Rattle.rv_emulator.specs.declared.instruction.Instr.TheVariants.{Addi, Lw}
-use Rattle.rv_emulator.specs.Instruction.{encoded}
+use Rattle.image_format.specs.declared.image.SiteEntry.{SiteEntry}
+use Rattle.rv_encode.specs.declared.instruction.Instr.{Instr}
+use Rattle.rv_encode.specs.declared.instruction.Instr.TheVariants.{Addi, Lw}
+use Rattle.rv_encode.specs.Words.{encoded}
 use Rattle.sat_tool.specs.declared.emit.Operator.{Operator}
 use Rattle.sat_tool.specs.declared.emit.Operator.TheVariants as operator
 use Rattle.sat_tool.specs.Emission.{HasOperands, slot, operator_code, operand_code, kept_code, call_code, call_entries, expression_code, environment_code, out_code, code_of, expression_entries, entries_from, image_of}

@@ -2,7 +2,7 @@
 use Rattle.std.proofs.Common.{◌≡◌, ℕ, List, sym, subst}
 use Rattle.c_reader.specs.declared.first.First.{First}
 use Rattle.c_reader.specs.Form.{Spells}
-use Rattle.rv_emulator.specs.declared.image.Image.{Image}
+use Rattle.image_format.specs.declared.image.Image.{Image}
 use Rattle.sat_tool.specs.Emission.{image_of}
 use Rattle.sat_tool.specs.Accepted.{IsImageOf}
 use Rattle.sat_tool.proofs.Bounds.{operands_of, code_small, calls_small, small}

@@ -6,10 +6,11 @@ use Rattle.sat_base.specs.Clip.{clip16}
 use Rattle.c_reader.specs.declared.first.FirstExpr.{FirstExpr, Int, Add', Sub', more_of-FirstExpr as boxed}
 use Rattle.c_reader.specs.Form.{IsOperand, depth_of}
 use Rattle.c_reader.specs.Meaning.{SourceState, value_of, after_expression, after_operator}
-use Rattle.rv_emulator.specs.declared.instruction.Instr.{Instr}
-use Rattle.rv_emulator.specs.declared.instruction.Instr.TheVariants.{Lui, Addi, Lw, Sw}
+use Rattle.rv_encode.specs.declared.instruction.Instr.{Instr}
+use Rattle.rv_encode.specs.declared.instruction.Instr.TheVariants.{Lui, Addi, Lw, Sw}
 use Rattle.rv_emulator.specs.Machine.{Goes, next_pc, word_at}
-use Rattle.rv_emulator.proofs.Words.{lui_decodes, addi_decodes}
+use Rattle.rv_encode.specs.Words.{IsWithin}
+use Rattle.rv_encode.proofs.Encodings.{encoded_decodes}
 use Rattle.sat_tool.specs.declared.emit.Operator.{Operator}
 use Rattle.sat_tool.specs.declared.emit.Operator.TheVariants as operator
 use Rattle.sat_tool.specs.Emission.{upper_of, lower_of, number_code, operator_code, slot, kept_code, operand_code, call_code, expression_code, HasOperands}
@@ -25,7 +26,7 @@ use Rattle.sat_tool.proofs.Storage.{address, keeping, Keeps, keeping_keeps, kept
 upper_small : (n : ℤ) → IsOperand n → upper_of n < 2 ^ 20
 upper_small n (m, is, small) = grind (arith, ints)
 
-lower_within : (n : ℤ) → IsOperand n → Rattle.rv_emulator.specs.Instruction.IsWithin 2048 (lower_of n)
+lower_within : (n : ℤ) → IsOperand n → IsWithin 2048 (lower_of n)
 lower_within n (m, is, small) = grind (arith, ints)
 
 operand_is_16 : (n : ℤ) → IsOperand n → Is16 n
@@ -84,8 +85,8 @@ module _ (code : List ℕ) (input output : List ℤ) where
   into_x8 k n f memory operand small stand =
       let half : File = record f { x8 = cast_signed w32 (upper_of n * 2 ^ 12) } in
       leads_from_same code input output (at input output (k + 2) (record f { x8 = n }) memory) (k + 0) k f memory (omega arith)
-      (leads_then code _ _ _ (leads_on code input output k 0 (Lui 8 (upper_of n)) f memory (stand 0 (Lui 8 (upper_of n)) refl) (lui_decodes 8 (upper_of n) (omega arith) (upper_small n operand)) half memory (omega arith) refl)
-      (leads_on code input output k 1 (Addi 8 8 (lower_of n)) half memory (stand 1 (Addi 8 8 (lower_of n)) refl) (addi_decodes 8 8 (lower_of n) (omega arith) (omega arith) (lower_within n operand)) (record f { x8 = n }) memory (omega arith)
+      (leads_then code _ _ _ (leads_on code input output k 0 (Lui 8 (upper_of n)) f memory (stand 0 (Lui 8 (upper_of n)) refl) (encoded_decodes (Lui 8 (upper_of n)) (omega arith, upper_small n operand)) half memory (omega arith) refl)
+      (leads_on code input output k 1 (Addi 8 8 (lower_of n)) half memory (stand 1 (Addi 8 8 (lower_of n)) refl) (encoded_decodes (Addi 8 8 (lower_of n)) (omega arith, omega arith, lower_within n operand)) (record f { x8 = n }) memory (omega arith)
       (ap (λ v. Goes (record (here input (k + 1) (record f { x8 = v }) memory) { pc = next_pc (place (k + 1)) })) (parts_add_up n operand))))
 
   into_x9 : (k : ℕ) (n : ℤ) (f : File) (memory : List ℕ) → IsOperand n → k + 2 ≤ most_words → Stand code k (number_code 9 n)
@@ -93,8 +94,8 @@ module _ (code : List ℕ) (input output : List ℤ) where
   into_x9 k n f memory operand small stand =
       let half : File = record f { x9 = cast_signed w32 (upper_of n * 2 ^ 12) } in
       leads_from_same code input output (at input output (k + 2) (record f { x9 = n }) memory) (k + 0) k f memory (omega arith)
-      (leads_then code _ _ _ (leads_on code input output k 0 (Lui 9 (upper_of n)) f memory (stand 0 (Lui 9 (upper_of n)) refl) (lui_decodes 9 (upper_of n) (omega arith) (upper_small n operand)) half memory (omega arith) refl)
-      (leads_on code input output k 1 (Addi 9 9 (lower_of n)) half memory (stand 1 (Addi 9 9 (lower_of n)) refl) (addi_decodes 9 9 (lower_of n) (omega arith) (omega arith) (lower_within n operand)) (record f { x9 = n }) memory (omega arith)
+      (leads_then code _ _ _ (leads_on code input output k 0 (Lui 9 (upper_of n)) f memory (stand 0 (Lui 9 (upper_of n)) refl) (encoded_decodes (Lui 9 (upper_of n)) (omega arith, upper_small n operand)) half memory (omega arith) refl)
+      (leads_on code input output k 1 (Addi 9 9 (lower_of n)) half memory (stand 1 (Addi 9 9 (lower_of n)) refl) (encoded_decodes (Addi 9 9 (lower_of n)) (omega arith, omega arith, lower_within n operand)) (record f { x9 = n }) memory (omega arith)
       (ap (λ v. Goes (record (here input (k + 1) (record f { x9 = v }) memory) { pc = next_pc (place (k + 1)) })) (parts_add_up n operand))))
 
   -- a right operand that is kept apart from the left one

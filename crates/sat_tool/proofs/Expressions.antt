@@ -8,9 +8,9 @@ use Rattle.sat_base.specs.declared.position.Pos.{Pos}
 use Rattle.c_reader.specs.declared.first.FirstExpr.{FirstExpr}
 use Rattle.c_reader.specs.declared.first.FirstExpr.TheVariants.{Add, Sub}
 use Rattle.c_reader.proofs.Boxes.{Add-boxed, Sub-boxed}
-use Rattle.rv_emulator.specs.declared.image.SiteEntry.{SiteEntry}
-use Rattle.rv_emulator.specs.declared.instruction.Instr.{Instr}
-use Rattle.rv_emulator.specs.Instruction.{encoded}
+use Rattle.image_format.specs.declared.image.SiteEntry.{SiteEntry}
+use Rattle.rv_encode.specs.declared.instruction.Instr.{Instr}
+use Rattle.rv_encode.specs.Words.{encoded}
 use Rattle.sat_tool.specs.declared.emit.Operator.{Operator}
 use Rattle.sat_tool.specs.declared.emit.Operator.TheVariants as operator
 use Rattle.sat_tool.specs.Emission.{call_code, operand_code, expression_code, out_code, entry_of, call_entries, expression_entries, entries_from, HasOperands}

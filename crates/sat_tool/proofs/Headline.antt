@@ -3,12 +3,12 @@ use Rattle.std.proofs.Common.{◌≡◌, ℕ, suc, ◌⊎◌, List, [], ◌∷�
 use Rattle.std.specs.FinMap as map
 use Rattle.c_reader.specs.declared.first.First.{First}
 use Rattle.c_reader.proofs.Sources.{one_tree}
-use Rattle.rv_emulator.specs.declared.image.Image.{Image}
-use Rattle.rv_emulator.specs.declared.image.SiteEntry.{SiteEntry}
+use Rattle.image_format.specs.declared.image.Image.{Image}
+use Rattle.image_format.specs.declared.image.SiteEntry.{SiteEntry}
 use Rattle.store_io.specs.Outside.{Files, Rose, IsCalm}
 use Rattle.sat_tool.specs.Accepted.{IsAccepted, IsRefused, IsImageOf, Compiles}
 use Rattle.sat_tool.specs.Command.{Command, Build, IsCommand}
-use Rattle.sat_tool.specs.ImageBytes.{image_bytes}
+use Rattle.image_format.specs.ImageBytes.{image_bytes}
 use Rattle.sat_tool.specs.Lines.{sites_line, not_yet_line}
 use Rattle.sat_tool.specs.Run.{StoreView, SinkView, store_view, sink_view, Job, Done, Refused, NoCommand, NoMemory, Missing, CannotRead, CannotWrite, IsRun, Serves, HasCause, IsTold, status_of, text_of}
 use Rattle.sat_tool.specs.Headline.{BuildsAccepted, RefusesOthers}

@@ -3,8 +3,9 @@ use Rattle.std.proofs.Common.{◌≡◌, ℕ, ◌+◌, ◌*◌, ◌%◌, ◌≤�
 use Rattle.std.specs.Prelude.{slice_get}
 use Rattle.sat_base.specs.declared.machine_fault.MachineFault.TheVariants.{Jump}
 use Rattle.rv_emulator.specs.declared.state.MachineState.{MachineState}
-use Rattle.rv_emulator.specs.declared.instruction.Instr.{Instr}
-use Rattle.rv_emulator.specs.Instruction.{decoded, encoded}
+use Rattle.rv_encode.specs.declared.instruction.Instr.{Instr}
+use Rattle.rv_encode.specs.Decoding.{decoded}
+use Rattle.rv_encode.specs.Words.{encoded}
 use Rattle.rv_emulator.specs.Machine.{Running, Goes, Moment, moment, moment_after, after_effect, effect_of, executed, carried_out, jumps, faults, next_pc}
 use Rattle.rv_emulator.proofs.Alike.{moment_after_add}
 use Rattle.sat_tool.proofs.Places.{place, most_words, fetched_at, next_place, target_place, whole_place}

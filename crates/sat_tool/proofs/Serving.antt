@@ -4,11 +4,11 @@ use Rattle.std.specs.Prelude.{IfOk, string_bytes}
 use Rattle.sat_base.specs.declared.refusal.Memory.{Memory}
 use Rattle.sat_base.specs.declared.limits.TheConstants.{SOURCE_BYTES}
 use Rattle.c_reader.proofs.Sources.{front_spells_the_same}
-use Rattle.rv_emulator.specs.declared.image.Image.{Image}
+use Rattle.image_format.specs.declared.image.Image.{Image}
 use Rattle.store_io.specs.Outside.{Files, Rose, ReadsFile, WritesPart, files_with}
 use Rattle.sat_tool.specs.Accepted.{IsAccepted, IsRefused, IsImageOf}
 use Rattle.sat_tool.specs.Command.{Build}
-use Rattle.sat_tool.specs.ImageBytes.{image_bytes}
+use Rattle.image_format.specs.ImageBytes.{image_bytes}
 use Rattle.sat_tool.specs.Outcomes.{ServesText, IsTextServed, IsServed, StandsFor, status_code}
 use Rattle.sat_tool.specs.declared.outcome.Outcome.{Outcome}
 use Rattle.sat_tool.specs.declared.outcome.Status.{Status}

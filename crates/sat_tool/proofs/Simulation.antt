@@ -11,9 +11,9 @@ use Rattle.c_reader.specs.declared.first.FirstExpr.{FirstExpr, Int, Add', Sub', 
 use Rattle.c_reader.specs.Form.{depth_of}
 use Rattle.c_reader.specs.Meaning.{SourceState, value_of, after_expression, after_out, after_outs, observed}
 use Rattle.c_reader.specs.Meaning as meaning
-use Rattle.rv_emulator.specs.declared.instruction.Instr.TheVariants.{Lui, Addi, Ecall}
+use Rattle.rv_encode.specs.declared.instruction.Instr.TheVariants.{Lui, Addi, Ecall}
 use Rattle.rv_emulator.specs.declared.state.Ending.TheVariants.{Ended}
-use Rattle.rv_emulator.specs.Instruction.{encoded}
+use Rattle.rv_encode.specs.Words.{encoded}
 use Rattle.rv_emulator.specs.Machine.{Running, Over, Goes, moment, after_effect, executed, next_pc, first_state, fetched}
 use Rattle.rv_emulator.specs.RunsAlike.{RunsAlike}
 use Rattle.rv_emulator.proofs.Alike.{runs_alike}

@@ -4,10 +4,10 @@ use Rattle.std.specs.Prelude.{slice_get}
 use Rattle.std.specs.Int.{w32, cast_signed, cast_unsigned, to_le_bytes}
 use Rattle.std.proofs.lemmas.Int.{ints}
 use Rattle.sat_base.specs.declared.machine_fault.MachineFault.TheVariants.{Load, Store, Align}
-use Rattle.rv_emulator.specs.declared.instruction.Instr.TheVariants.{Lw, Sw}
-use Rattle.rv_emulator.specs.Instruction.{encoded, IsWithin}
+use Rattle.rv_encode.specs.declared.instruction.Instr.TheVariants.{Lw, Sw}
+use Rattle.rv_encode.specs.Words.{encoded, IsWithin}
 use Rattle.rv_emulator.specs.Machine.{Effect, Goes, data_start, is_inside, word_at, with_word, stores, loads, faults, next_pc, address_of}
-use Rattle.rv_emulator.proofs.Words.{encoded_decodes}
+use Rattle.rv_encode.proofs.Encodings.{encoded_decodes}
 use Rattle.rv_emulator.proofs.Stores.{stored_is_loaded, others_stay}
 use Rattle.sat_tool.specs.Emission.{slot}
 use Rattle.sat_tool.proofs.Places.{most_words}

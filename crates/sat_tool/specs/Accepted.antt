@@ -3,7 +3,7 @@ use Rattle.std.specs.Prelude.{◌≡◌, ◌≤◌, ◌%◌, ℕ, List, length}
 use Rattle.c_reader.specs.declared.first.First.{First}
 use Rattle.c_reader.specs.Form.{Spells}
 use Rattle.c_reader.specs.Meaning.{observed}
-use Rattle.rv_emulator.specs.declared.image.Image.{Image}
+use Rattle.image_format.specs.declared.image.Image.{Image}
 use Rattle.rv_emulator.specs.RunsAlike.{RunsAlike}
 use Rattle.sat_tool.specs.Sites.{HoldsSites, sites_of}
 

@@ -6,11 +6,11 @@ use Rattle.sat_base.specs.declared.position.Pos.{Pos}
 use Rattle.c_reader.specs.declared.first.First.{First}
 use Rattle.c_reader.specs.declared.first.FirstExpr.{FirstExpr, Int, Add', Sub', more_of-FirstExpr as boxed}
 use Rattle.c_reader.specs.Form.{IsOperand}
-use Rattle.rv_emulator.specs.declared.image.Image.{Image}
-use Rattle.rv_emulator.specs.declared.image.SiteEntry.{SiteEntry}
-use Rattle.rv_emulator.specs.declared.instruction.Instr.{Instr}
-use Rattle.rv_emulator.specs.declared.instruction.Instr.TheVariants.{Lui, Addi, Add, Sub, Lw, Sw, Blt, Bge, Jal, Ecall}
-use Rattle.rv_emulator.specs.Instruction.{encoded}
+use Rattle.image_format.specs.declared.image.Image.{Image}
+use Rattle.image_format.specs.declared.image.SiteEntry.{SiteEntry}
+use Rattle.rv_encode.specs.declared.instruction.Instr.{Instr}
+use Rattle.rv_encode.specs.declared.instruction.Instr.TheVariants.{Lui, Addi, Add, Sub, Lw, Sw, Blt, Bge, Jal, Ecall}
+use Rattle.rv_encode.specs.Words.{encoded}
 use Rattle.sat_tool.specs.declared.emit.Operator.{Operator}
 use Rattle.sat_tool.specs.declared.emit.Operator.TheVariants as operator
 

@@ -3,11 +3,11 @@
 use Rattle.std.specs.Prelude.{◌≡◌, ℕ, ◌⊎◌, List, ◌++◌, length, Some}
 use Rattle.std.specs.FinMap as map
 use Rattle.c_reader.specs.declared.first.First.{First}
-use Rattle.rv_emulator.specs.declared.image.Image.{Image}
+use Rattle.image_format.specs.declared.image.Image.{Image}
 use Rattle.store_io.specs.Outside.{Files, IsCalm}
 use Rattle.sat_tool.specs.Accepted.{IsAccepted, IsRefused, Compiles}
 use Rattle.sat_tool.specs.Command.{Build, IsCommand}
-use Rattle.sat_tool.specs.ImageBytes.{image_bytes}
+use Rattle.image_format.specs.ImageBytes.{image_bytes}
 use Rattle.sat_tool.specs.Lines.{sites_line, not_yet_line}
 use Rattle.sat_tool.specs.Run.{StoreView, SinkView}
 use Rattle.sat_tool.specs.Sites.{sites_of}

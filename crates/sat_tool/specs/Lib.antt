@@ -2,7 +2,6 @@ pub mod Accepted
 pub mod Command
 pub mod Emission
 pub mod Headline
-pub mod ImageBytes
 pub mod Lines
 pub mod Outcomes
 pub mod Refusals

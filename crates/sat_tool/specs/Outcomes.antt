@@ -1,13 +1,13 @@
 -- The outcome of a job in the code, and the job that it stands for.
 use Rattle.std.specs.Prelude.{◌≡◌, ℕ, List, string_bytes}
-use Rattle.rv_emulator.specs.declared.image.Image.{Image}
+use Rattle.image_format.specs.declared.image.Image.{Image}
 use Rattle.store_io.specs.Outside.{Rose, WritesPart, files_with}
 use Rattle.sat_tool.specs.declared.outcome.Outcome.{Outcome}
 use Rattle.sat_tool.specs.declared.outcome.Status.{Status}
 use Rattle.sat_tool.specs.declared.outcome.Status.TheVariants as statuses
 use Rattle.sat_tool.specs.Accepted.{IsRefused, IsImageOf}
 use Rattle.sat_tool.specs.Command.{Command}
-use Rattle.sat_tool.specs.ImageBytes.{image_bytes}
+use Rattle.image_format.specs.ImageBytes.{image_bytes}
 use Rattle.sat_tool.specs.Run.{StoreView, Job, Done, Refused, NoCommand, NoMemory, Missing, CannotRead, CannotWrite, status_of, text_of, Serves, HasCause}
 
 abbrev pub status_code : Status → ℕ

@@ -1,11 +1,11 @@
 -- What a run of the program does with a store and a sink.
 use Rattle.std.specs.Prelude.{◌≡◌, ℕ, ◌≤◌, ◌⊎◌, List, length, Option, Some, None}
 use Rattle.std.specs.FinMap as map
-use Rattle.rv_emulator.specs.declared.image.Image.{Image}
+use Rattle.image_format.specs.declared.image.Image.{Image}
 use Rattle.store_io.specs.Outside.{Files, Rose, IsMissing, WritesPart, files_with, text_with, GrowsByPart}
 use Rattle.sat_tool.specs.Accepted.{IsRefused, IsImageOf}
 use Rattle.sat_tool.specs.Command.{Command, Build, IsCommand, IsNoCommand}
-use Rattle.sat_tool.specs.ImageBytes.{image_bytes}
+use Rattle.image_format.specs.ImageBytes.{image_bytes}
 use Rattle.sat_tool.specs.Lines.{sites_line, not_yet_line, usage_line, memory_line, missing_line, cannot_read_line, cannot_write_line}
 
 -- what is seen of a store, and of a sink, at a moment

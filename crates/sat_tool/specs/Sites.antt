@@ -5,9 +5,9 @@ use Rattle.std.specs.List.{flat_map}
 use Rattle.sat_base.specs.declared.position.Pos.{Pos}
 use Rattle.c_reader.specs.declared.first.First.{First}
 use Rattle.c_reader.specs.declared.first.FirstExpr.{FirstExpr, Int, Add', Sub', more_of-FirstExpr as boxed}
-use Rattle.rv_emulator.specs.declared.image.Image.{Image}
-use Rattle.rv_emulator.specs.declared.image.SiteEntry.{SiteEntry}
-use Rattle.rv_emulator.specs.Instruction.{encoded}
+use Rattle.image_format.specs.declared.image.Image.{Image}
+use Rattle.image_format.specs.declared.image.SiteEntry.{SiteEntry}
+use Rattle.rv_encode.specs.Words.{encoded}
 use Rattle.sat_tool.specs.declared.emit.Operator.{Operator}
 use Rattle.sat_tool.specs.declared.emit.Operator.TheVariants as operator
 use Rattle.sat_tool.specs.Emission.{kind_of, operator_code}

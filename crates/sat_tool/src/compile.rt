@@ -5,7 +5,7 @@ ghost use Rattle.sat_tool.specs.Accepted.{IsImageOf, IsRefused};
 
 use crate::emit::image_of;
 use c_reader::{FirstRefusal, read_first};
-use rv_emulator::Image;
+use image_format::Image;
 use std::alloc::{AllocError, Global};
 
 /// What is made of a source.

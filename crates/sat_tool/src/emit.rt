@@ -4,11 +4,12 @@ ghost use Rattle.std.specs.Prelude.{◌≡◌, ◌+◌, ◌<◌, ◌≤◌, ◌�
 ghost use Rattle.std.specs.List.{flat_map};
 ghost use Rattle.c_reader.specs.Form.{IsOperand, depth_of};
 ghost use Rattle.c_reader.specs.declared.first.TheConstants.{NESTING};
-ghost use Rattle.rv_emulator.specs.Instruction.{Fits, IsRegister, IsWithin, encoded};
+ghost use Rattle.rv_encode.specs.Words.{Fits, IsRegister, IsWithin, encoded};
 ghost use Rattle.sat_tool.specs.Emission.{clip_code, number_code, operator_code, call_code, operand_code, expression_code, environment_code, out_code, code_of, kind_of, entry_of, call_entries, expression_entries, entries_from, image_of, HasOperands, slot};
 
 use c_reader::{First, FirstExpr};
-use rv_emulator::{Image, Instr, SiteEntry, encode};
+use image_format::{Image, SiteEntry};
+use rv_encode::{Instr, encode};
 use sat_base::Pos;
 use sqlite_items::Items;
 use std::alloc::{AllocError, Global};

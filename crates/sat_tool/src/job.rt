@@ -10,9 +10,8 @@ ghost use Rattle.sat_tool.specs.Outcomes.{StandsFor, IsCaused, IsServed, IsTextS
 use crate::compile::{CompileRefusal, compile};
 use crate::line::Line;
 use crate::outcome::{Outcome, Status};
-use crate::spelling::image_bytes;
 use crate::words::{Command, command_of};
-use rv_emulator::Image;
+use image_format::{Image, write_bytes};
 use sat_base::Memory;
 use sat_base::limits::SOURCE_BYTES;
 use std::alloc::Global;
@@ -97,7 +96,7 @@ fn write_image<S: Store>(
     ensures memory { OnErr result (S.files store.new ≡ S.files store.old) }
     ensures later { S.faults store.old ≤ S.faults store.new }
 {
-    let bytes = image_bytes(alloc, image)?;
+    let bytes = write_bytes(alloc, image)?;
     let report = Outcome::new(alloc, Status::Done, Line::Sites(image.sites.len()))?;
     let failure = Outcome::new(alloc, Status::Unusable, Line::CannotWrite(name))?;
     match store.write(alloc, name, &bytes) {

@@ -11,7 +11,6 @@ mod job;
 mod line;
 mod outcome;
 mod satc;
-mod spelling;
 #[cfg(test)]
 mod tests;
 mod words;

@@ -3,9 +3,9 @@ use Rattle.std.proofs.Math.Nat.{le-max_left, le-max_right}
 use Rattle.std.proofs.lemmas.Result.{on_ok_weaker}
 use Rattle.c_reader.specs.Form.{depth_of}
 use Rattle.c_reader.specs.declared.first.FirstExpr.TheVariants.{Add, Sub}
-use Rattle.rv_emulator.specs.declared.image.SiteEntry.{SiteEntry}
-use Rattle.rv_emulator.specs.declared.instruction.Instr.{Instr}
-use Rattle.rv_emulator.specs.Instruction.{encoded}
+use Rattle.image_format.specs.declared.image.SiteEntry.{SiteEntry}
+use Rattle.rv_encode.specs.declared.instruction.Instr.{Instr}
+use Rattle.rv_encode.specs.Words.{encoded}
 use Rattle.sat_tool.specs.declared.emit.TheConstants.{MOST_WORDS}
 use Rattle.sat_tool.specs.Emission.{operand_code, expression_code, expression_entries, entry_of, HasOperands}
 use Rattle.c_reader.proofs.Boxes.{depth_of-Add, depth_of-Sub}

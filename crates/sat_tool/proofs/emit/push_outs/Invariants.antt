@@ -1,6 +1,6 @@
 use Rattle.std.proofs.Common.{◌≡◌, ◌++◌, length, map, take}
 use Rattle.std.specs.List.{flat_map}
-use Rattle.rv_emulator.specs.Instruction.{encoded}
+use Rattle.rv_encode.specs.Words.{encoded}
 use Rattle.sat_tool.specs.Emission.{out_code, entries_from}
 use Rattle.sat_tool.proofs.emit.push_outs.Given as goal
 

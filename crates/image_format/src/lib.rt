@@ -1,0 +1,11 @@
+// Images, and their bytes in files.
+#![tactic(auto)]
+
+pub mod image;
+pub mod spelling;
+
+pub use image::{Image, SiteEntry};
+pub use spelling::write_bytes;
+
+#[cfg(test)]
+mod tests;

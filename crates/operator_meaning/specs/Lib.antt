@@ -1,0 +1,5 @@
+pub mod Clipping
+pub mod Laws
+pub mod Outcome
+pub mod Table
+pub mod Value
