@@ -222,6 +222,61 @@ fn faults(rt: HostRuntime) -> Result<(), Fail> {
     Ok(())
 }
 
+/// Words beside the table: each differs in a bit from an opcode, a function field or a whole word that is on it.
+#[test]
+fn words_beside_the_table(rt: HostRuntime) -> Result<(), Fail> {
+    let opcodes: [u32; 11] = [
+        0x36, 0x16, 0x6e, 0x66, 0x62, 0x02, 0x22, 0x12, 0x32, 0x0e, 0x72,
+    ];
+    let fields: [u32; 12] = [
+        0x0000_1067, // JALR, funct3 001
+        0x0000_2063, // BRANCH, funct3 010
+        0x0000_3003, // LOAD, funct3 011
+        0x0000_3023, // STORE, funct3 011
+        0x0200_1013, // SLLI, upper bits 0000001
+        0x2000_5013, // SRLI, upper bits 0010000
+        0x0400_0033, // ADD, funct7 0000010
+        0x4000_1033, // SLL, funct7 0100000
+        0x0000_100f, // FENCE, funct3 001
+        0x0000_00f3, // ECALL, rd 1
+        0x0020_0073, // EBREAK, immediate 2
+        0x0010_00f3, // EBREAK, rd 1
+    ];
+    for word in opcodes.iter().chain(fields.iter()) {
+        let mut machine = machine(&rt, &[*word], &[])?;
+        assert_eq!(rt;
+            machine.run(&mut 100),
+            fault(0x0001_0000, Word),
+            "at {word:#x}"
+        );
+    }
+    Ok(())
+}
+
+/// Jumps and branches that are taken to a half-word.
+#[test]
+fn targets_between_words(rt: HostRuntime) -> Result<(), Fail> {
+    for word in [
+        0x0020_006f, // jal x0, 2
+        0x0020_0067, // jalr x0, 2(x0)
+        0x0000_0163, // beq x0, x0, 2
+        0x0010_1163, // bne x0, x1, 2
+        0x0010_4163, // blt x0, x1, 2
+        0x0000_5163, // bge x0, x0, 2
+        0x0010_6163, // bltu x0, x1, 2
+        0x0000_7163, // bgeu x0, x0, 2
+    ] {
+        // addi x1, x0, 1
+        let mut machine = machine(&rt, &[0x0010_0093, word], &[])?;
+        assert_eq!(rt;
+            machine.run(&mut 100),
+            fault(0x0001_0004, Jump),
+            "at {word:#x}"
+        );
+    }
+    Ok(())
+}
+
 /// Reads and writes each sample, while one is left, and then ends with -1 in x27, 2 in x25 and -1 in x24.
 const COPY: [u32; 13] = [
     0x0010_0893, // addi x17, x0, 1
