@@ -21,6 +21,10 @@ status_code statuses.SinkFailed = 9
 abbrev pub StandsFor : Outcome → Job → Type 0
 StandsFor outcome job = (status_code outcome.status ≡ status_of job) × (string_bytes outcome.text ≡ text_of job)
 
+-- a text that a job with this status puts
+abbrev pub IsTextWith : Status → List ℕ → Type 0
+IsTextWith status text = (job : Job) × (status_code status ≡ status_of job) × (text ≡ text_of job)
+
 -- it stands for what the words come to
 abbrev pub IsCaused : List (List ℕ) → StoreView → StoreView → Outcome → Type 0
 IsCaused words old new outcome = (job : Job) × StandsFor outcome job × HasCause words old new job

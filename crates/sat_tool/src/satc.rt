@@ -3,7 +3,7 @@
 ghost use Rattle.std.specs.Prelude.{◌≡◌, ◌≤◌, map, string_bytes};
 ghost use Rattle.sat_tool.specs.Run.{store_view, sink_view, IsRun, IsTold};
 ghost use Rattle.sat_tool.specs.Headline.{BuildsAccepted, RefusesOthers};
-ghost use Rattle.sat_tool.specs.Outcomes.{status_code};
+ghost use Rattle.sat_tool.specs.Outcomes.{status_code, IsTextWith};
 
 use crate::job::job;
 use crate::outcome::Status;
@@ -49,6 +49,7 @@ fn answer<S: Store, K: Sink>(alloc: Global, words: &[String], store: &mut S, out
 
 // Puts a text, and answers the status, or that of a put that failed.
 fn tell<K: Sink>(alloc: Global, status: Status, text: &str, out: &mut K) -> Status
+    requires { IsTextWith status text.now }
     ensures told { IsTold (status_code status) text.now (status_code result)
         (sink_view (K.written out.old) (K.faults out.old)) (sink_view (K.written out.new) (K.faults out.new)) }
     ensures later { K.faults out.old ≤ K.faults out.new }
