@@ -1,0 +1,13 @@
+pub mod CuttingLaws
+pub mod Definition
+pub mod Directive
+pub mod Expression
+pub mod Judging
+pub mod Lexeme
+pub mod Names
+pub mod Number
+pub mod Piece
+pub mod Spans
+pub mod Sum
+pub mod Text
+pub mod Views

@@ -1,0 +1,12 @@
+-- Where the tokens of a text stand in it.
+use Rattle.std.specs.Prelude.{ℕ, ◌+◌, ◌≤◌, List, length}
+use Rattle.c_lexer.specs.declared.token.Token.{Token}
+
+-- the token has a byte or more, and lies in the text
+pub record LiesIn (text : List ℕ) (token : Token) : Type 0 where
+  pub some : 1 ≤ token.len
+  pub within : token.start + token.len ≤ length text
+
+-- the token ends before the other one begins
+abbrev pub Precedes : Token → Token → Type 0
+Precedes token other = token.start + token.len ≤ other.start

@@ -1,0 +1,14 @@
+// What follows from the definitions of expressions alone.
+
+ghost use Rattle.c_lexer.specs.Definition.{ValuesOfDefinitions};
+ghost use Rattle.c_lexer.specs.Sum.{ValuesOfSums};
+
+/// The value of an expression, as it is read from left to right, is that of the sum that its parts spell.
+pub fn values_of_sums()
+    ensures { ValuesOfSums }
+{}
+
+/// The value that a definition gives is that of the number, the name or the sum that its parts spell.
+pub fn values_of_definitions()
+    ensures { ValuesOfDefinitions }
+{}

@@ -1,0 +1,26 @@
+// Cuts the text of a source into tokens.
+#![tactic(auto)]
+
+mod bytes;
+mod cursor;
+mod cutting_laws;
+mod directive;
+mod expression;
+mod laws;
+mod lexeme;
+mod lexer;
+mod names;
+mod number;
+mod token;
+mod words;
+
+pub use cutting_laws::{
+    fronts_are_longest, kinds_are_apart, lines_are_longest, operators_are_named,
+    pieces_are_longest, pieces_follow, pieces_make_the_text,
+};
+pub use laws::{values_of_definitions, values_of_sums};
+pub use lexer::tokens;
+pub use token::{LexRefusal, Token, TokenKind, Tokens};
+
+#[cfg(test)]
+mod tests;
