@@ -1,134 +1,104 @@
--- Expressions and statements: where their pieces are laid out, they are read, with the numbers and the places
--- of their tokens.
-use Rattle.std.proofs.Common.{◌≡◌, ℕ, zero, suc, ◌+◌, ◌<◌, List, [], ◌∷◌, ◌++◌, length, drop, Some, codes, refl, sym, ap, ◌∙◌, append_assoc, add-one, arith}
-use Rattle.std.proofs.lemmas.List.{length-append}
-use Rattle.sat_base.specs.Position.{position_after}
-use Rattle.sat_base.specs.declared.position.Pos.{Pos}
-use Rattle.c_reader.specs.declared.first.FirstExpr.{FirstExpr, Int, Add', Sub', more_of-FirstExpr as boxed, end_of-FirstExpr as end}
-use Rattle.c_reader.specs.declared.read.Operator.{Operator}
-use Rattle.c_reader.specs.declared.read.Operator.TheVariants as operators
-use Rattle.c_reader.specs.Form.{number, call_pieces, expression_pieces, depth_of, text_before, IsNamedAt, IsPlaced}
-use Rattle.c_reader.specs.Reading.{Found, Reads, next_piece, after_piece, after_pieces, call_of, call_after, expression_after, expression_at}
-use Rattle.c_reader.proofs.Layouts.{Separates, spot_at, found_at, next_piece-spot_at}
-use Rattle.c_reader.proofs.Spots.{bound, after_piece-found}
-use Rattle.c_reader.proofs.Trees.{name_of, operator_of-name_of, operator_of-number, number_of-number, call_tree, call_of-tree}
+-- Reading places.
+use Rattle.std.proofs.Common.{◌≡◌, ◌≢◌, ℕ, suc, true, List, [], ◌∷◌, ◌++◌, None, refl, ap, subst, ◌∙◌, sym}
+use Rattle.std.proofs.lemmas.List.{append_assoc}
+use Rattle.std.specs.Prelude.{Result, Ok, Err}
+use Rattle.sat_base.specs.declared.name.At.{At}
+use Rattle.sat_base.specs.declared.name.Named.{Named}
+use Rattle.c_tree.specs.declared.expression.Expr.{Expr}
+use Rattle.c_tree.specs.declared.place.Place.{Place}
+use Rattle.c_tree.specs.declared.place.Place.TheVariants as place
+use Rattle.c_reader.specs.declared.symbol.Symbol.{Symbol}
+use Rattle.c_reader.specs.declared.symbol.Symbol.TheVariants as symbol
+use Rattle.c_reader.specs.Grammar.{Rule}
+use Rattle.c_reader.specs.Grammar as rule
+use Rattle.c_reader.specs.Nodes as a
+use Rattle.c_reader.specs.Parts.{Part, node, kept}
+use Rattle.c_reader.specs.ReadExpressions.{indices_by, readers, place_at}
+use Rattle.c_reader.specs.Spelling.{Spells}
+use Rattle.c_reader.specs.Spots.{Spot}
+use Rattle.c_reader.specs.Stream.{ahead, Fault, Parser, ◌>>=◌, both, mapped, take_at, name_at}
+use Rattle.c_reader.specs.Symbols.{same_symbol}
+use Rattle.c_reader.proofs.Indices.{ReadsExpressions, of_named, tail_at, tail_right, of_tail, stops_tail, of_called, of_place_parts, place_of_pair, place_rule, place_choice, indices_is}
+use Rattle.c_reader.proofs.Leads.{lead_ahead}
+use Rattle.c_reader.proofs.Looser.{seen_by, seen_twice}
+use Rattle.c_reader.proofs.Lower.{RightReaders, Right-stops}
+use Rattle.c_reader.proofs.Right.{first, Ends, Stops, Right, always}
+use Rattle.c_reader.proofs.Rules.{Chosen, Choice, no_parts, early_seen, late_seen, token-ahead}
+use Rattle.c_reader.proofs.Sequences.{from_nothing}
+use Rattle.c_reader.proofs.Steps.{both_parts, both_stops, Right-both, Right-seen}
+use Rattle.c_reader.proofs.Stops.{stops_place}
+use Rattle.c_reader.proofs.SymbolNumbers.{same-is, other-is}
+use Rattle.c_reader.proofs.Tokens.{ahead-same, take_right, name_right, no_name, Right-if}
 
--- ---- pieces
+abbrev pub of_place : Place → List Part
+of_place p = node (a.place p) ∷ []
 
-pub drop-next : (k : ℕ) (xs : List (List ℕ)) (y : List ℕ) (ys : List (List ℕ)) → drop k xs ≡ y ∷ ys → drop (k + 1) xs ≡ ys
-drop-next k xs y ys e = rw add-one (drop-suc k xs e) where
-  drop-suc : (j : ℕ) (zs : List (List ℕ)) → drop j zs ≡ y ∷ ys → drop (suc j) zs ≡ ys
-  drop-suc zero [] h = absurd cc
-  drop-suc zero (z ∷ zs) h = cc
-  drop-suc (suc j) [] h = absurd cc
-  drop-suc (suc j) (z ∷ zs) h = drop-suc j zs h
+-- the place that begins with a name
+pub named_right : (n : ℕ) (expression : Parser Expr) → ReadsExpressions n expression → (i : List Spot) → Ends i
+    → Right (λ (p : Place). node (a.named p) ∷ []) (suc n) stops_place [] i (name_at i >>= (λ x. indices_by expression x.0 x.1))
+named_right n expression right i ends = subst (λ (y : Result (Place × List Spot) Fault). Right of_named (suc n) stops_place [] i y) (sym (by_result (name_at i))) place
+  where
+    pair : Right of_place_parts n (both_stops stops_tail) [] i (both name_at (tail_at expression) i)
+    pair = Right-both of_called of_tail n always stops_tail (λ p t c v s sp st. refl) None name_at (tail_at expression) [] i (name_right n i ends) (tail_right n expression right)
 
-pub drop-past : (ps : List (List ℕ)) (k : ℕ) (xs qs : List (List ℕ)) → drop k xs ≡ ps ++ qs → drop (k + length ps) xs ≡ qs
-drop-past [] k xs qs e = let same : k + 0 ≡ k = omega arith in rw same e
-drop-past (p ∷ ps) k xs qs e =
-    let same : k + length (p ∷ ps) ≡ k + 1 + length ps = omega arith in
-    rw same (drop-past ps (k + 1) xs qs (drop-next k xs p (ps ++ qs) e))
+    place : Right of_named (suc n) stops_place [] i (seen_by place_of_pair (both name_at (tail_at expression) i))
+    place = Right-seen of_place_parts of_named n (suc n) (both_stops stops_tail) stops_place [] i place_of_pair
+        (late_seen (λ p. a.named p) of_place_parts n (both_stops stops_tail) stops_place [] i place_of_pair (λ y. place_rule y.0 y.1)
+        (λ p early late c1 c2 u1 u2 s r rule sp1 sp2 st e h. place_choice p s rule st))
+        (both name_at (tail_at expression) i) pair
 
-pub after_piece-spot_at : (spaces pieces : List (List ℕ)) → Separates spaces pieces → (p : List ℕ) (k : ℕ) (qs : List (List ℕ)) → drop k pieces ≡ p ∷ qs
-    → after_piece p (spot_at spaces pieces k) ≡ Some (spot_at spaces pieces (k + 1))
-after_piece-spot_at spaces pieces s p k qs e = after_piece-found (spot_at spaces pieces k) (found_at spaces pieces k p) (spot_at spaces pieces (k + 1)) (next_piece-spot_at spaces pieces k p qs s e)
+    by_result : (y : Result (Named × List Spot) Fault)
+        → (y >>= (λ x. indices_by expression x.0 x.1)) ≡ seen_by place_of_pair (y >>= (λ x. tail_at expression x.1 >>= (λ z. Ok ((x.0, z.0), z.1))))
+    by_result (Ok x) = indices_is expression x.0 x.1 ∙ sym (seen_twice (λ t. (x.0, t)) place_of_pair (tail_at expression x.1))
+    by_result (Err f) = refl
 
-pub after_pieces-spot_at : (spaces pieces : List (List ℕ)) → Separates spaces pieces → (ps : List (List ℕ)) (k : ℕ) (qs : List (List ℕ)) → drop k pieces ≡ ps ++ qs
-    → after_pieces ps (spot_at spaces pieces k) ≡ Some (spot_at spaces pieces (k + length ps))
-after_pieces-spot_at spaces pieces s [] k qs e = ap (λ m. Some (spot_at spaces pieces m)) (omega arith)
-after_pieces-spot_at spaces pieces s (p ∷ ps) k qs e =
-    bound (after_piece p (spot_at spaces pieces k)) (spot_at spaces pieces (k + 1)) (after_pieces ps) (after_piece-spot_at spaces pieces s p k (ps ++ qs) e)
-    ∙ after_pieces-spot_at spaces pieces s ps (k + 1) qs (drop-next k pieces p (ps ++ qs) e)
-    ∙ ap (λ m. Some (spot_at spaces pieces m)) (omega arith)
+-- ---- what goes through a view
 
--- ---- calls
+abbrev of_star : At → List Part
+of_star at = kept symbol.Star at ∷ []
 
--- where the parts of a call begin
-record Parts (pieces : List (List ℕ)) (k : ℕ) (left right others : List (List ℕ)) : Type 0 where
-  opening : drop (k + 1) pieces ≡ codes "(" ∷ (left ++ (codes "," ∷ (right ++ (codes ")" ∷ others))))
-  at_left : drop (k + 2) pieces ≡ left ++ (codes "," ∷ (right ++ (codes ")" ∷ others)))
-  comma : drop (k + 2 + length left) pieces ≡ codes "," ∷ (right ++ (codes ")" ∷ others))
-  at_right : drop (k + 2 + length left + 1) pieces ≡ right ++ (codes ")" ∷ others)
-  closing : drop (k + 2 + length left + 1 + length right) pieces ≡ codes ")" ∷ others
+abbrev deref_of : At × Named → Place
+deref_of x = place.Deref x.0 x.1
 
-parts_of : (pieces : List (List ℕ)) (k : ℕ) (name : List ℕ) (left right others : List (List ℕ)) → drop k pieces ≡ call_pieces name left right ++ others → Parts pieces k left right others
-parts_of pieces k name left right others e =
-    let rest = codes "," ∷ (right ++ (codes ")" ∷ others)) in
-    let regrouped : (left ++ codes "," ∷ (right ++ codes ")" ∷ [])) ++ others ≡ left ++ rest =
-    append_assoc left (codes "," ∷ (right ++ codes ")" ∷ [])) others ∙ ap (λ (x : List (List ℕ)). left ++ (codes "," ∷ x)) (append_assoc right (codes ")" ∷ []) others) in
-    let opening : drop (k + 1) pieces ≡ codes "(" ∷ (left ++ rest) =
-    drop-next k pieces name (codes "(" ∷ ((left ++ codes "," ∷ (right ++ codes ")" ∷ [])) ++ others)) e ∙ ap (λ (x : List (List ℕ)). codes "(" ∷ x) regrouped in
-    let two : k + 2 ≡ k + 1 + 1 = omega arith in
-    let at_left : drop (k + 2) pieces ≡ left ++ rest = ap (λ m. drop m pieces) two ∙ drop-next (k + 1) pieces (codes "(") (left ++ rest) opening in
-    let comma = drop-past left (k + 2) pieces rest at_left in
-    let at_right = drop-next (k + 2 + length left) pieces (codes ",") (right ++ (codes ")" ∷ others)) comma in
-    record {
-      opening = opening;
-      at_left = at_left;
-      comma = comma;
-      at_right = at_right;
-      closing = drop-past right (k + 2 + length left + 1) pieces (codes ")" ∷ others) at_right;
-    }
+deref_choice : (p : Place) {early late : List Part} {c1 : ℕ} (u1 u2 s r i : List Spot) → Rule (a.place p) early late → Spells early c1 u1 → ahead i ≡ symbol.Star
+    → (u1 ++ u2) ++ s ≡ r → first r ≡ first i → Chosen no_parts (both_parts of_star of_called) (both_stops always) deref_of p early late s
+deref_choice p u1 u2 s r i (rule.deref {star_at = at} {name = name} e) sp is eq h = record { a = (at, name); same = e; is_early = refl; is_late = refl; stops = refl }
+deref_choice p u1 u2 s r i rule.place_named sp is eq h =
+    let no : same_symbol (ahead (u1 ++ (u2 ++ s))) symbol.Name ≡ true = lead_ahead (u2 ++ s) sp refl in
+    let it : ahead (u1 ++ (u2 ++ s)) ≡ symbol.Star = ap ahead (sym (append_assoc u1 u2 s) ∙ eq) ∙ ahead-same r i h ∙ is in
+    let never : same_symbol symbol.Star symbol.Name ≡ true = ap (λ (t : Symbol). same_symbol t symbol.Name) (sym it) ∙ no in
+    cc
 
--- this reads the expression at that place, if its pieces are there
-abbrev ReadsAt : List (List ℕ) → List (List ℕ) → Reads FirstExpr → ℕ → FirstExpr → Type 0
-ReadsAt spaces pieces reader k e =
-    (others : List (List ℕ)) → drop k pieces ≡ expression_pieces e ++ others → reader (spot_at spaces pieces k) ≡ Some (e, spot_at spaces pieces (k + length (expression_pieces e)))
+pub indirection_right : (n : ℕ) (i : List Spot) → Ends i → ahead i ≡ symbol.Star
+    → Right (λ (p : Place). node (a.place p) ∷ []) (suc n) always [] i (mapped (λ x. place.Deref x.0 x.1) (both (take_at symbol.Star) name_at) i)
+indirection_right n i ends is = Right-seen (both_parts of_star of_called) of_place n (suc n) (both_stops always) always [] i deref_of
+    (late_seen (λ p. a.place p) (both_parts of_star of_called) n (both_stops always) always [] i deref_of (λ x. rule.deref refl)
+    (λ p early late c1 c2 u1 u2 s r rule sp1 sp2 st e h. deref_choice p u1 u2 s r i rule sp1 is e h))
+    (both (take_at symbol.Star) name_at i)
+    (Right-both of_star of_called n always always (λ x y c v s sp st. refl) no_name (take_at symbol.Star) name_at [] i (take_right symbol.Star (λ f. cc) n i ends) (λ j ends. name_right n j ends))
 
-call_after-spot_at : (spaces pieces : List (List ℕ)) → Separates spaces pieces → (operand : Reads FirstExpr) (operator : Operator) (found : Found) (name : List ℕ) (left right : FirstExpr) (k : ℕ) (others : List (List ℕ))
-    → drop k pieces ≡ call_pieces name (expression_pieces left) (expression_pieces right) ++ others
-    → ReadsAt spaces pieces operand (k + 2) left
-    → ReadsAt spaces pieces operand (k + 2 + length (expression_pieces left) + 1) right
-    → call_after operand operator found (spot_at spaces pieces (k + 1)) ≡ Some (call_of operator found left right, spot_at spaces pieces (k + length (call_pieces name (expression_pieces left) (expression_pieces right))))
-unfolding call_after
-call_after-spot_at spaces pieces s operand operator found name left right k others e reads_left reads_right =
-    let at = spot_at spaces pieces in
-    let lefts = expression_pieces left in
-    let rights = expression_pieces right in
-    let parts = parts_of pieces k name lefts rights others e in
-    let two : k + 1 + 1 ≡ k + 2 = omega arith in
-    let opened : after_pieces (codes "(" ∷ []) (at (k + 1)) ≡ Some (at (k + 2)) = after_pieces-spot_at spaces pieces s (codes "(" ∷ []) (k + 1) _ parts.opening ∙ ap (λ m. Some (at m)) two in
-    let after_left = k + 2 + length lefts in
-    let parted : after_pieces (codes "," ∷ []) (at after_left) ≡ Some (at (after_left + 1)) = after_pieces-spot_at spaces pieces s (codes "," ∷ []) after_left _ parts.comma in
-    let after_right = after_left + 1 + length rights in
-    let closed : after_pieces (codes ")" ∷ []) (at after_right) ≡ Some (at (after_right + 1)) = after_pieces-spot_at spaces pieces s (codes ")" ∷ []) after_right _ parts.closing in
-    let all : after_right + 1 ≡ k + length (call_pieces name lefts rights) = omega (arith, length-append lefts (codes "," ∷ (rights ++ codes ")" ∷ [])), length-append rights (codes ")" ∷ [])) in
-    rw (opened, reads_left _ parts.at_left, parted, reads_right _ parts.at_right, closed, all) refl
+-- ---- a place of any sort
 
-call-spot_at : (spaces pieces : List (List ℕ)) → Separates spaces pieces → (levels : ℕ) (operator : Operator) (tok : ℕ) (place : Pos) (left right : FirstExpr) (k : ℕ) (others : List (List ℕ))
-    → drop k pieces ≡ call_pieces (name_of operator) (expression_pieces left) (expression_pieces right) ++ others
-    → IsNamedAt spaces pieces k tok place
-    → ReadsAt spaces pieces (expression_at levels) (k + 2) left
-    → ReadsAt spaces pieces (expression_at levels) (k + 2 + length (expression_pieces left) + 1) right
-    → expression_at (suc levels) (spot_at spaces pieces k) ≡ Some (call_tree operator tok place left right, spot_at spaces pieces (k + length (call_pieces (name_of operator) (expression_pieces left) (expression_pieces right))))
-unfolding expression_at
-call-spot_at spaces pieces s levels operator tok place left right k others e named reads_left reads_right =
-    let at = spot_at spaces pieces in
-    let name = name_of operator in
-    let found = found_at spaces pieces k name in
-    let end = at (k + length (call_pieces name (expression_pieces left) (expression_pieces right))) in
-    let number : k ≡ tok = sym named.0 in
-    let position : found.pos ≡ place = ap (λ m. position_after (text_before m spaces pieces)) number ∙ sym named.1 in
-    let tree : call_of operator found left right ≡ call_tree operator tok place left right =
-    call_of-tree operator found left right ∙ ap (λ m. call_tree operator m found.pos left right) number ∙ ap (λ p. call_tree operator tok p left right) position in
-    bound (next_piece (at k)) (found, at (k + 1)) _ (next_piece-spot_at spaces pieces k name _ s e)
-    ∙ ap (λ o. expression_after (expression_at levels) o found (at (k + 1))) (operator_of-name_of operator)
-    ∙ call_after-spot_at spaces pieces s (expression_at levels) operator found name left right k others e reads_left reads_right
-    ∙ ap (λ (x : FirstExpr). Some (x, end)) tree
+named_choice : (p : Place) {early late : List Part} {c1 c2 : ℕ} (u1 u2 s r i : List Spot) → Rule (a.place p) early late → Spells early c1 u1 → Spells late c2 u2 → ahead i ≢ symbol.Star
+    → Stops stops_place p s → (u1 ++ u2) ++ s ≡ r → first r ≡ first i → Chosen of_named no_parts stops_place (λ (q : Place). q) p early late s
+named_choice p u1 u2 s r i rule.place_named sp1 sp2 not st eq h = record { a = p; same = refl; is_early = refl; is_late = refl; stops = st }
+named_choice p u1 u2 s r i (rule.deref e) sp1 sp2 not st eq h =
+    let it : ahead (u2 ++ s) ≡ symbol.Star = token-ahead s sp2 in
+    let all : u2 ++ s ≡ r = ap (λ (w : List Spot). (w ++ u2) ++ s) (sym (from_nothing sp1).tokens) ∙ eq in
+    absurd (not (sym (ahead-same r i h) ∙ ap ahead (sym all) ∙ it))
 
--- ---- expressions
+same_seen : {A : Type 0} (y : Result (A × List Spot) Fault) → seen_by (λ x. x) y ≡ y
+same_seen (Ok z) = refl
+same_seen (Err f) = refl
 
-pub expression_at-spot_at : (spaces pieces : List (List ℕ)) → Separates spaces pieces → (levels : ℕ) (e : FirstExpr) (k : ℕ) → depth_of e < levels → IsPlaced spaces pieces k e
-    → ReadsAt spaces pieces (expression_at levels) k e
-unfolding expression_at
-expression_at-spot_at spaces pieces s zero e k shallow placed others here = absurd (omega arith)
-expression_at-spot_at spaces pieces s (suc levels) (Int n) k shallow placed others here =
-    rw (next_piece-spot_at spaces pieces k (number n) others s here, operator_of-number n placed, number_of-number n placed) refl
-expression_at-spot_at spaces pieces s (suc levels) (Add' tok place _ (boxed left end) _ (boxed right end)) k shallow placed others here =
-    let reads_left = expression_at-spot_at spaces pieces s levels left (k + 2) (omega arith) placed.1 in
-    let reads_right = expression_at-spot_at spaces pieces s levels right (k + 2 + length (expression_pieces left) + 1) (omega arith) placed.2 in
-    call-spot_at spaces pieces s levels operators.Add tok place left right k others here placed.0 reads_left reads_right
-expression_at-spot_at spaces pieces s (suc levels) (Sub' tok place _ (boxed left end) _ (boxed right end)) k shallow placed others here =
-    let reads_left = expression_at-spot_at spaces pieces s levels left (k + 2) (omega arith) placed.1 in
-    let reads_right = expression_at-spot_at spaces pieces s levels right (k + 2 + length (expression_pieces left) + 1) (omega arith) placed.2 in
-    call-spot_at spaces pieces s levels operators.Sub tok place left right k others here placed.0 reads_left reads_right
+-- a place that does not begin with a star
+pub place_of_named : (n : ℕ) (before i : List Spot) (y : Result (Place × List Spot) Fault)
+    → Choice (λ p. a.place p) of_named no_parts stops_place stops_place before i (λ p. p) → Right of_named n stops_place before i y → Right of_place n stops_place before i y
+place_of_named n before i y choice right = subst (λ (z : Result (Place × List Spot) Fault). Right of_place n stops_place before i z) (same_seen y)
+    (Right-seen of_named of_place n n stops_place stops_place before i (λ p. p) (early_seen (λ p. a.place p) of_named n stops_place stops_place before i (λ p. p) (λ p. rule.place_named) choice) y right)
+
+pub place_right : (n : ℕ) → RightReaders n (readers n) → (i : List Spot) → Ends i → Right (λ (p : Place). node (a.place p) ∷ []) n stops_place [] i (place_at n i)
+unfolding place_at
+place_right n right i ends = Right-if of_place n stops_place [] i (same_symbol (ahead i) symbol.Star) ((readers n).indirection i) ((readers n).named i)
+    (λ e. Right-stops of_place n always stops_place [] i (λ p s st. refl) ((readers n).indirection i) (right.indirection i ends (same-is (ahead i) symbol.Star e)))
+    (λ e. place_of_named n [] i ((readers n).named i) (λ p early late c1 c2 u1 u2 s r rule sp1 sp2 st e2 h. named_choice p u1 u2 s r i rule sp1 sp2 (other-is (ahead i) symbol.Star e) st e2 h) (right.named i ends))

@@ -1,15 +1,24 @@
-// Reads the first form of sources: a `main` that writes the values of expressions of `add` and `sub`.
+// Reads the tokens of a source into its tree (ISO/IEC 9899:1990, clause 6, as far as the profile goes).
 #![tactic(auto)]
 
-mod cursor;
-pub mod first;
+mod call;
+mod declaration;
+mod expression;
+mod function;
 mod laws;
-mod piece;
-mod read;
+mod measured;
+mod place;
+mod program;
+mod reader;
+mod refusal;
+mod simple;
+mod spot;
+mod statement;
+pub mod symbol;
 
-pub use first::{First, FirstExpr, FirstRefusal};
-pub use laws::{front_spells_the_same, one_tree};
-pub use read::read_first;
+pub use laws::one_tree;
+pub use program::read;
+pub use refusal::ReadRefusal;
 
 #[cfg(test)]
 mod tests;

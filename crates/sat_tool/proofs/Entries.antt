@@ -4,8 +4,8 @@ use Rattle.std.proofs.lemmas.List.{length-append, length-map, map-append}
 use Rattle.std.proofs.lemmas.List.Elements.{All-head, All-tail, All-nil, All-cons, All-append}
 use Rattle.std.proofs.Math.Seq.{drop-append_seam, take-append_seam}
 use Rattle.sat_base.specs.declared.position.Pos.{Pos}
-use Rattle.c_reader.specs.declared.first.First.{First}
-use Rattle.c_reader.specs.declared.first.FirstExpr.{FirstExpr, Int, Add', Sub', more_of-FirstExpr as boxed}
+use Rattle.first_form.specs.declared.first.First.{First}
+use Rattle.first_form.specs.declared.first.FirstExpr.{FirstExpr, Int, Add', Sub', more_of-FirstExpr as boxed}
 use Rattle.image_format.specs.declared.image.SiteEntry.{SiteEntry}
 use Rattle.rv_encode.specs.declared.instruction.Instr.{Instr}
 use Rattle.rv_encode.specs.declared.instruction.Instr.TheVariants.{Lui, Addi, Lw, Sw}

@@ -3,9 +3,9 @@ use Rattle.std.proofs.Common.{◌≡◌, ℕ, ◌+◌, ◌*◌, ◌^◌, max, �
 use Rattle.std.specs.Int.{w32, cast_signed, int_wrapping_add}
 use Rattle.std.proofs.lemmas.Int.{ints}
 use Rattle.sat_base.specs.Clip.{clip16}
-use Rattle.c_reader.specs.declared.first.FirstExpr.{FirstExpr, Int, Add', Sub', more_of-FirstExpr as boxed}
-use Rattle.c_reader.specs.Form.{IsOperand, depth_of}
-use Rattle.c_reader.specs.Meaning.{SourceState, value_of, after_expression, after_operator}
+use Rattle.first_form.specs.declared.first.FirstExpr.{FirstExpr, Int, Add', Sub', more_of-FirstExpr as boxed}
+use Rattle.first_form.specs.Form.{IsOperand, HasOperands, nesting_of}
+use Rattle.first_form.specs.Meaning.{SourceState, value_of, after_expression, after_operator}
 use Rattle.rv_encode.specs.declared.instruction.Instr.{Instr}
 use Rattle.rv_encode.specs.declared.instruction.Instr.TheVariants.{Lui, Addi, Lw, Sw}
 use Rattle.rv_emulator.specs.Machine.{Goes, next_pc, word_at}
@@ -13,8 +13,8 @@ use Rattle.rv_encode.specs.Words.{IsWithin}
 use Rattle.rv_encode.proofs.Encodings.{encoded_decodes}
 use Rattle.sat_tool.specs.declared.emit.Operator.{Operator}
 use Rattle.sat_tool.specs.declared.emit.Operator.TheVariants as operator
-use Rattle.sat_tool.specs.Emission.{upper_of, lower_of, number_code, operator_code, slot, kept_code, operand_code, call_code, expression_code, HasOperands}
-use Rattle.sat_tool.proofs.Bounds.{calls_of}
+use Rattle.sat_tool.specs.Emission.{upper_of, lower_of, number_code, operator_code, slot, kept_code, operand_code, call_code, expression_code}
+use Rattle.sat_tool.proofs.Sizes.{calls_of}
 use Rattle.sat_tool.proofs.Entries.{operator_length}
 use Rattle.sat_tool.proofs.Places.{place, most_words, Stand, stand_left, stand_right}
 use Rattle.sat_tool.proofs.Leads.{Leads, leads_then, leads_on, leads_to_same, leads_from_same, File, here, at}
@@ -56,7 +56,7 @@ pub record Agrees (s : SourceState) (f : File) : Type 0 where
   pub count : f.x24 ≡ pos s.count
   pub flag : f.x27 ≡ s.overflow
 
-module _ (code : List ℕ) (input output : List ℤ) where
+module _ (code : List ℕ) (input output : List ℤ) (levels : ℕ) (few_levels : levels < 64) where
   -- so many words on, x8 has a value, and the source has come to this state
   pub record Reaches (k size depth : ℕ) (value : ℤ) (after : SourceState) (f : File) (memory : List ℕ) : Type 0 where
     pub file : File
@@ -64,7 +64,7 @@ module _ (code : List ℕ) (input output : List ℤ) where
     pub leads : Leads code (at input output k f memory) (at input output (k + size) file new)
     pub value_is : file.x8 ≡ value
     pub agrees : Agrees after file
-    pub keeps : Keeps depth memory new
+    pub keeps : Keeps levels depth memory new
 
   -- x9 has the value, and x8 is as before
   pub record ReachesRight (k size depth : ℕ) (value : ℤ) (after : SourceState) (f : File) (memory : List ℕ) : Type 0 where
@@ -74,9 +74,9 @@ module _ (code : List ℕ) (input output : List ℤ) where
     pub value_is : file.x9 ≡ value
     pub left_is : file.x8 ≡ f.x8
     pub agrees : Agrees after file
-    pub keeps : Keeps depth memory new
+    pub keeps : Keeps levels depth memory new
 
-  keeps_all : (depth : ℕ) (memory : List ℕ) → length memory ≡ 64 → Keeps depth memory memory
+  keeps_all : (depth : ℕ) (memory : List ℕ) → length memory ≡ 4 * levels → Keeps levels depth memory memory
   keeps_all depth memory size = record { size = size; words = λ j less. refl }
 
   -- a number into x8, and into x9
@@ -103,7 +103,7 @@ module _ (code : List ℕ) (input output : List ℤ) where
   kept_length depth instrs = omega (arith, length-append instrs (Addi 9 8 (pos 0) ∷ Lw 8 26 (slot depth) ∷ []))
 
   reaches_kept : (k depth : ℕ) (instrs : List Instr) (value : ℤ) (after : SourceState) (f : File) (memory : List ℕ)
-      → Stand code k (kept_code depth instrs) → k + length (kept_code depth instrs) ≤ most_words → depth < 16 → length memory ≡ 64
+      → Stand code k (kept_code depth instrs) → k + length (kept_code depth instrs) ≤ most_words → depth < levels → length memory ≡ 4 * levels
       → Is16 f.x8 → Is16 value
       → (Stand code (k + 1) instrs → Reaches (k + 1) (length instrs) (depth + 1) value after f (keeping memory depth f.x8))
       → ReachesRight k (length (kept_code depth instrs)) depth value after f memory
@@ -116,18 +116,18 @@ module _ (code : List ℕ) (input output : List ℤ) where
       let r = inner (stand_left code (k + 1) instrs tail rest) in
       let end_stand : Stand code (k + 1 + n) tail = stand_right code (k + 1) instrs tail rest in
       let g = r.file in
-      let memory_kept = keeping_keeps memory depth f.x8 size less in
+      let memory_kept = keeping_keeps levels memory depth f.x8 size less in
       let moved : File = record g { x9 = value } in
-      let kept_word : word_at r.new (address depth) ≡ Rattle.std.specs.Int.cast_unsigned w32 f.x8 = r.keeps.words depth (omega arith) ∙ kept memory depth f.x8 size less left_16 in
+      let kept_word : word_at r.new (address depth) ≡ Rattle.std.specs.Int.cast_unsigned w32 f.x8 = r.keeps.words depth (omega arith) ∙ kept levels memory depth f.x8 size less left_16 in
       let stored = leads_from_same code input output (at input output (k + (0 + 1)) f (keeping memory depth f.x8)) (k + 0) k f memory (omega arith)
-      (keeps_left code input output k 0 depth f memory (omega arith) size less (stand 0 sw refl)) in
+      (keeps_left code input output levels few_levels k 0 depth f memory (omega arith) size less (stand 0 sw refl)) in
       let copied = leads_from_same code input output (at input output (k + 1 + n + 1) moved r.new) (k + 1 + n + 0) (k + 1 + n) g r.new (omega arith)
       (leads_on code input output (k + 1 + n) 0 (Addi 9 8 (pos 0)) g r.new (end_stand 0 (Addi 9 8 (pos 0)) refl) refl moved r.new (omega arith)
       (ap (λ v. Goes (record (here input (k + 1 + n + 0) (record g { x9 = v }) r.new) { pc = next_pc (place (k + 1 + n + 0)) })) (ap (λ v. int_wrapping_add w32 v (pos 0)) r.value_is ∙ plus_zero value value_16))) in
       let start = at input output k f memory in
       let last = at input output (k + length (kept_code depth instrs)) (record moved { x8 = f.x8 }) r.new in
       let brought = leads_to_same code input output (at input output (k + 1 + n + 1) moved r.new) (k + 1 + n + 2) (k + length (kept_code depth instrs)) (record moved { x8 = f.x8 }) r.new (omega arith)
-      (brings_back code input output (k + 1 + n) 1 depth moved r.new (omega arith) r.keeps.size less f.x8 kept_word left_16 (end_stand 1 (Lw 8 26 (slot depth)) refl)) in
+      (brings_back code input output levels few_levels (k + 1 + n) 1 depth moved r.new (omega arith) r.keeps.size less f.x8 kept_word left_16 (end_stand 1 (Lw 8 26 (slot depth)) refl)) in
       record {
         file = record moved { x8 = f.x8 };
         new = r.new;
@@ -143,11 +143,11 @@ module _ (code : List ℕ) (input output : List ℤ) where
   -- a right operand
   reaches_right : (k depth : ℕ) (e : FirstExpr) (s : SourceState) (f : File) (memory : List ℕ) → HasOperands e
       → Stand code k (operand_code depth e (expression_code (depth + 1) e)) → k + length (operand_code depth e (expression_code (depth + 1) e)) ≤ most_words
-      → depth < 16 → length memory ≡ 64 → Is16 f.x8 → Agrees s f
-      → (Stand code (k + 1) (expression_code (depth + 1) e) → k + 1 + length (expression_code (depth + 1) e) ≤ most_words
+      → depth + nesting_of e ≤ levels → length memory ≡ 4 * levels → Is16 f.x8 → Agrees s f
+      → (depth < levels → Stand code (k + 1) (expression_code (depth + 1) e) → k + 1 + length (expression_code (depth + 1) e) ≤ most_words
       → Reaches (k + 1) (length (expression_code (depth + 1) e)) (depth + 1) (value_of e) (after_expression e s) f (keeping memory depth f.x8))
       → ReachesRight k (length (operand_code depth e (expression_code (depth + 1) e))) depth (value_of e) (after_expression e s) f memory
-  reaches_right k depth (Int n) s f memory operand stand small less size left_16 agrees inner = record {
+  reaches_right k depth (Int n) s f memory operand stand small shallow size left_16 agrees inner = record {
     file = record f { x9 = n };
     new = memory;
     leads = into_x9 k n f memory operand small stand;
@@ -156,16 +156,18 @@ module _ (code : List ℕ) (input output : List ℤ) where
     agrees = record { count = agrees.count; flag = agrees.flag };
     keeps = keeps_all depth memory size;
   }
-  reaches_right k depth (Add' tok at p (boxed left q) r (boxed right t)) s f memory operands stand small less size left_16 agrees inner =
+  reaches_right k depth (Add' tok at p (boxed left q) r (boxed right t)) s f memory operands stand small shallow size left_16 agrees inner =
+      let less : depth < levels = omega (arith, shallow) in
       let e = Add' tok at p (boxed left q) r (boxed right t) in
       let instrs = expression_code (depth + 1) e in
       reaches_kept k depth instrs (value_of e) (after_expression e s) f memory stand small less size left_16 (value_is_16 e operands)
-      (λ rest. inner rest (omega (arith, kept_length depth instrs)))
-  reaches_right k depth (Sub' tok at p (boxed left q) r (boxed right t)) s f memory operands stand small less size left_16 agrees inner =
+      (λ rest. inner less rest (omega (arith, kept_length depth instrs)))
+  reaches_right k depth (Sub' tok at p (boxed left q) r (boxed right t)) s f memory operands stand small shallow size left_16 agrees inner =
+      let less : depth < levels = omega (arith, shallow) in
       let e = Sub' tok at p (boxed left q) r (boxed right t) in
       let instrs = expression_code (depth + 1) e in
       reaches_kept k depth instrs (value_of e) (after_expression e s) f memory stand small less size left_16 (value_is_16 e operands)
-      (λ rest. inner rest (omega (arith, kept_length depth instrs)))
+      (λ rest. inner less rest (omega (arith, kept_length depth instrs)))
 
   -- ---- a call
 
@@ -180,7 +182,7 @@ module _ (code : List ℕ) (input output : List ℤ) where
   module _ (op : Operator) (k depth : ℕ) (left right : List Instr) (a b : ℤ) (is_a : Is16 a) (is_b : Is16 b) (s t : SourceState) (f : File) (memory : List ℕ)
       (stand : Stand code k (call_code op left right)) (small : k + length (call_code op left right) ≤ most_words) (few : t.count ≤ 131072)
       (first : Stand code k left → Reaches k (length left) depth a s f memory)
-      (second : (g : File) (new : List ℕ) → Stand code (k + length left) right → Is16 g.x8 → Agrees s g → length new ≡ 64
+      (second : (g : File) (new : List ℕ) → Stand code (k + length left) right → Is16 g.x8 → Agrees s g → length new ≡ 4 * levels
       → ReachesRight (k + length left) (length right) depth b t g new) where
     abbrev words : List Instr
     words = operator_code op
@@ -205,7 +207,7 @@ module _ (code : List ℕ) (input output : List ℤ) where
     stand_count = subst (λ n. Stand code (middle + n) counting) (operator_length op) (stand_right code middle words counting stand_operator)
 
     -- the operator and the count, from its operands in x8 and x9 on
-    finishes : (g : File) (new : List ℕ) → g.x8 ≡ a → g.x9 ≡ b → Agrees t g → Keeps depth memory new
+    finishes : (g : File) (new : List ℕ) → g.x8 ≡ a → g.x9 ≡ b → Agrees t g → Keeps levels depth memory new
         → Leads code (at input output k f memory) (at input output middle g new)
         → Reaches k (length (call_code op left right)) depth (clip16 exact) (after_operator (is_clipped exact) 1 t) f memory
     finishes g new in_x8 in_x9 agrees keeps leads =
@@ -243,7 +245,7 @@ module _ (code : List ℕ) (input output : List ℤ) where
   -- ---- an expression
 
   pub reaches : (k depth : ℕ) (e : FirstExpr) (s : SourceState) (f : File) (memory : List ℕ) → HasOperands e
-      → Stand code k (expression_code depth e) → k + length (expression_code depth e) ≤ most_words → depth + depth_of e ≤ 16 → length memory ≡ 64
+      → Stand code k (expression_code depth e) → k + length (expression_code depth e) ≤ most_words → depth + nesting_of e ≤ levels + 1 → length memory ≡ 4 * levels
       → s.count + calls_of e ≤ 131072 → Agrees s f
       → Reaches k (length (expression_code depth e)) depth (value_of e) (after_expression e s) f memory
   reaches k depth (Int n) s f memory operand stand small shallow size few agrees = record {
@@ -260,25 +262,25 @@ module _ (code : List ℕ) (input output : List ℤ) where
       let t = after_expression left s in
       let whole : k + length (call_code operator.Add instrs operand) ≤ most_words = small in
       let all = call_length operator.Add instrs operand in
-      let deep : depth + (max (depth_of left) (depth_of right) + 1) ≤ 16 = shallow in
+      let deep : depth + (max (nesting_of left) (nesting_of right) + 1) ≤ levels + 1 = shallow in
       let count : s.count + (calls_of left + calls_of right + 1) ≤ 131072 = few in
       let count_left = counts left s in
       let count_right = counts right t in
       reaches_call operator.Add k depth instrs operand (value_of left) (value_of right) (value_is_16 left operands.0) (value_is_16 right operands.1) t (after_expression right t) f memory stand small (omega arith)
       (λ rest. reaches k depth left s f memory operands.0 rest (omega arith) (omega arith) size (omega arith) agrees)
       (λ g new rest left_16 now new_size. reaches_right (k + length instrs) depth right t g new operands.1 rest (omega arith) (omega arith) new_size left_16 now
-      (λ inner inner_small. reaches (k + length instrs + 1) (depth + 1) right t g (keeping new depth g.x8) operands.1 inner inner_small (omega arith) (keeping_keeps new depth g.x8 new_size (omega arith)).size (omega arith) now))
+      (λ less inner inner_small. reaches (k + length instrs + 1) (depth + 1) right t g (keeping new depth g.x8) operands.1 inner inner_small (omega arith) (keeping_keeps levels new depth g.x8 new_size less).size (omega arith) now))
   reaches k depth (Sub' tok at _ (boxed left _) _ (boxed right _)) s f memory operands stand small shallow size few agrees =
       let instrs = expression_code depth left in
       let operand = operand_code depth right (expression_code (depth + 1) right) in
       let t = after_expression left s in
       let whole : k + length (call_code operator.Sub instrs operand) ≤ most_words = small in
       let all = call_length operator.Sub instrs operand in
-      let deep : depth + (max (depth_of left) (depth_of right) + 1) ≤ 16 = shallow in
+      let deep : depth + (max (nesting_of left) (nesting_of right) + 1) ≤ levels + 1 = shallow in
       let count : s.count + (calls_of left + calls_of right + 1) ≤ 131072 = few in
       let count_left = counts left s in
       let count_right = counts right t in
       reaches_call operator.Sub k depth instrs operand (value_of left) (value_of right) (value_is_16 left operands.0) (value_is_16 right operands.1) t (after_expression right t) f memory stand small (omega arith)
       (λ rest. reaches k depth left s f memory operands.0 rest (omega arith) (omega arith) size (omega arith) agrees)
       (λ g new rest left_16 now new_size. reaches_right (k + length instrs) depth right t g new operands.1 rest (omega arith) (omega arith) new_size left_16 now
-      (λ inner inner_small. reaches (k + length instrs + 1) (depth + 1) right t g (keeping new depth g.x8) operands.1 inner inner_small (omega arith) (keeping_keeps new depth g.x8 new_size (omega arith)).size (omega arith) now))
+      (λ less inner inner_small. reaches (k + length instrs + 1) (depth + 1) right t g (keeping new depth g.x8) operands.1 inner inner_small (omega arith) (keeping_keeps levels new depth g.x8 new_size less).size (omega arith) now))

@@ -5,15 +5,16 @@ use Rattle.std.proofs.lemmas.List.{length-map, append-nil, map-append, flat_map_
 use Rattle.std.proofs.lemmas.List.Folds.{length-flat_map-take}
 use Rattle.std.specs.List.{flat_map}
 use Rattle.sat_base.specs.declared.position.Pos.{Pos}
-use Rattle.c_reader.specs.declared.first.FirstExpr.{FirstExpr}
-use Rattle.c_reader.specs.declared.first.FirstExpr.TheVariants.{Add, Sub}
-use Rattle.c_reader.proofs.Boxes.{Add-boxed, Sub-boxed}
+use Rattle.first_form.specs.Form.{HasOperands}
+use Rattle.first_form.specs.declared.first.FirstExpr.{FirstExpr}
+use Rattle.first_form.specs.declared.first.FirstExpr.TheVariants.{Add, Sub}
+use Rattle.first_form.proofs.Calls.{Add-boxed, Sub-boxed}
 use Rattle.image_format.specs.declared.image.SiteEntry.{SiteEntry}
 use Rattle.rv_encode.specs.declared.instruction.Instr.{Instr}
 use Rattle.rv_encode.specs.Words.{encoded}
 use Rattle.sat_tool.specs.declared.emit.Operator.{Operator}
 use Rattle.sat_tool.specs.declared.emit.Operator.TheVariants as operator
-use Rattle.sat_tool.specs.Emission.{call_code, operand_code, expression_code, out_code, entry_of, call_entries, expression_entries, entries_from, HasOperands}
+use Rattle.sat_tool.specs.Emission.{call_code, operand_code, expression_code, out_code, entry_of, call_entries, expression_entries, entries_from}
 
 -- ---- a call of an operator
 

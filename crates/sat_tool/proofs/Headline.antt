@@ -1,18 +1,19 @@
 -- What a run says of `build` over a store and a sink that tell what they hold and count no fault.
 use Rattle.std.proofs.Common.{◌≡◌, ℕ, suc, ◌⊎◌, List, [], ◌∷◌, ◌++◌, length, Option, Some, refl, sym, ap, ◌∙◌, subst, inl, inr, ⊎_elim, arith}
 use Rattle.std.specs.FinMap as map
-use Rattle.c_reader.specs.declared.first.First.{First}
-use Rattle.c_reader.proofs.Sources.{one_tree}
+use Rattle.first_form.specs.declared.first.First.{First}
 use Rattle.image_format.specs.declared.image.Image.{Image}
 use Rattle.image_format.specs.declared.image.SiteEntry.{SiteEntry}
 use Rattle.store_io.specs.Outside.{Files, Rose, IsCalm}
 use Rattle.sat_tool.specs.Accepted.{IsAccepted, IsRefused, IsImageOf, Compiles}
 use Rattle.sat_tool.specs.Command.{Command, Build, IsCommand}
 use Rattle.image_format.specs.ImageBytes.{image_bytes}
-use Rattle.sat_tool.specs.Lines.{sites_line, not_yet_line}
+use Rattle.sat_tool.specs.Lines.{sites_line}
+use Rattle.sat_tool.specs.Refusals.{MayShow}
 use Rattle.sat_tool.specs.Run.{StoreView, SinkView, store_view, sink_view, Job, Done, Refused, NoCommand, NoMemory, Missing, CannotRead, CannotWrite, IsRun, Serves, HasCause, IsTold, status_of, text_of}
 use Rattle.sat_tool.specs.Headline.{BuildsAccepted, RefusesOthers}
 use Rattle.sat_tool.specs.Sites.{Site, AreEntriesOf, sites_of}
+use Rattle.sat_tool.proofs.Refusals.{one_first, not_shown}
 
 not_both : (before now : ℕ) → IsCalm before now → Rose before now → ⊥
 not_both before now calm rose = omega (arith, calm, rose)
@@ -36,7 +37,7 @@ module _ (words : List (List ℕ)) (files : Files) (new : StoreView) (before : �
       × (new.files ≡ Some (map.insert files target (image_bytes image))) × (sink_new.written ≡ Some (written ++ sites_line (length (sites_of first))))))
 
   abbrev Rejected : Type 0
-  Rejected = (status ≡ 3) ⊎ ((status ≡ 1) × (new.files ≡ Some files) × (sink_new.written ≡ Some (written ++ not_yet_line)))
+  Rejected = (status ≡ 3) ⊎ ((status ≡ 1) × (new.files ≡ Some files) × ((line : List ℕ) × MayShow text line × (sink_new.written ≡ Some (written ++ line))))
 
   abbrev Told : Job → Type 0
   Told job = (status ≡ status_of job) × (sink_new.written ≡ Some (written ++ text_of job))
@@ -45,13 +46,13 @@ module _ (words : List (List ℕ)) (files : Files) (new : StoreView) (before : �
   built_by first accepted s t same_source same_target (Done image) served told =
       let here : served.0 ≡ text = let a = served.1 in let b = held in let c = same_source in cc in
       let of = subst (λ x. IsImageOf x image) here served.2 in
-      let same : of.first ≡ first = one_tree text of.first first of.accepted accepted in
+      let same : of.first ≡ first = one_first text of.first first of.accepted accepted in
       let compiles = subst (λ f. Compiles f image) same of.compiles in
       let count = as_many image.code (sites_of first) image.sites compiles.sites.entries in
       inr (told.0, (image, compiles, served.3 ∙ ap (λ name. Some (map.insert files name (image_bytes image))) same_target, told.1 ∙ ap (λ n. Some (written ++ sites_line n)) count))
-  built_by first accepted s t same_source same_target Refused served told =
+  built_by first accepted s t same_source same_target (Refused line) served told =
       let here : served.0 ≡ text = let a = served.1 in let b = held in let c = same_source in cc in
-      absurd (served.2 first (subst (λ x. IsAccepted x first) (sym here) accepted))
+      absurd (not_shown text line first accepted (subst (λ x. MayShow x line) here served.2))
   built_by first accepted s t same_source same_target NoCommand served told = absurd served
   built_by first accepted s t same_source same_target NoMemory served told = inl told.0
   built_by first accepted s t same_source same_target (Missing name) served told =
@@ -64,7 +65,9 @@ module _ (words : List (List ℕ)) (files : Files) (new : StoreView) (before : �
       let here : served.0 ≡ text = let a = served.1 in let b = held in let c = same_source in cc in
       let of = subst (λ x. IsImageOf x image) here served.2 in
       absurd (refused of.first of.accepted)
-  rejected_by refused s t same_source same_target Refused served told = inr (told.0, served.3, told.1)
+  rejected_by refused s t same_source same_target (Refused line) served told =
+      let here : served.0 ≡ text = let a = served.1 in let b = held in let c = same_source in cc in
+      inr (told.0, served.3, (line, subst (λ x. MayShow x line) here served.2, told.1))
   rejected_by refused s t same_source same_target NoCommand served told = absurd served
   rejected_by refused s t same_source same_target NoMemory served told = inl told.0
   rejected_by refused s t same_source same_target (Missing name) served told =

@@ -1,12 +1,15 @@
-pub mod Bounds
 pub mod Compiled
 pub mod Entries
 pub mod Evaluation
 pub mod Expressions
 pub mod Headline
 pub mod Leads
+pub mod Nesting
 pub mod Operators
 pub mod Places
+pub mod Refusals
 pub mod Serving
 pub mod Simulation
+pub mod Sizes
 pub mod Storage
+pub mod TokenCounts

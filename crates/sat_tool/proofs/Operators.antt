@@ -5,7 +5,7 @@ use Rattle.std.specs.Ordering.{int_eq}
 use Rattle.std.proofs.lemmas.Int.{ints, clamps}
 use Rattle.std.proofs.lemmas.Bool.Decides.{Decides-int_eq}
 use Rattle.sat_base.specs.Clip.{clip16}
-use Rattle.c_reader.specs.Form.{IsOperand}
+use Rattle.first_form.specs.Form.{IsOperand}
 use Rattle.rv_encode.specs.declared.instruction.Instr.TheVariants.{Lui, Addi, Add, Sub, Blt, Bge, Jal}
 use Rattle.rv_emulator.specs.Machine.{Moment, jumps, goes_on}
 use Rattle.sat_tool.specs.declared.emit.Operator.{Operator}

@@ -1,24 +1,26 @@
 -- The machine does what a source of the first form does.
-use Rattle.std.proofs.Common.{◌≡◌, ℕ, ◌+◌, ◌*◌, ◌^◌, ◌≤◌, ℤ, pos, List, [], ◌∷◌, ◌++◌, length, map, Some, refl, sym, ap, ◌∙◌, subst, arith, length-append}
+use Rattle.std.proofs.Common.{◌≡◌, ℕ, ◌+◌, ◌*◌, ◌^◌, ◌<◌, ◌≤◌, ℤ, pos, List, [], ◌∷◌, ◌++◌, length, map, Some, refl, sym, ap, ◌∙◌, subst, arith, length-append}
 use Rattle.std.specs.Prelude.{All}
 use Rattle.std.specs.List.{flat_map}
 use Rattle.std.specs.Int.{w32, cast_unsigned}
 use Rattle.std.proofs.lemmas.Int.{ints}
+use Rattle.std.proofs.lemmas.List.{length-replicate}
 use Rattle.std.proofs.lemmas.List.Elements.{All-head, All-tail}
 use Rattle.sat_base.specs.Clip.{low16}
-use Rattle.c_reader.specs.declared.first.First.{First}
-use Rattle.c_reader.specs.declared.first.FirstExpr.{FirstExpr, Int, Add', Sub', more_of-FirstExpr as boxed}
-use Rattle.c_reader.specs.Form.{depth_of}
-use Rattle.c_reader.specs.Meaning.{SourceState, value_of, after_expression, after_out, after_outs, observed}
-use Rattle.c_reader.specs.Meaning as meaning
+use Rattle.first_form.specs.declared.first.First.{First}
+use Rattle.first_form.specs.declared.first.FirstExpr.{FirstExpr, Int, Add', Sub', more_of-FirstExpr as boxed}
+use Rattle.first_form.specs.Form.{HasOperands, nesting_of}
+use Rattle.first_form.specs.Meaning.{SourceState, value_of, after_expression, after_out, after_outs, observed}
+use Rattle.first_form.specs.Meaning as meaning
 use Rattle.rv_encode.specs.declared.instruction.Instr.TheVariants.{Lui, Addi, Ecall}
 use Rattle.rv_emulator.specs.declared.state.Ending.TheVariants.{Ended}
 use Rattle.rv_encode.specs.Words.{encoded}
 use Rattle.rv_emulator.specs.Machine.{Running, Over, Goes, moment, after_effect, executed, next_pc, first_state, fetched}
 use Rattle.rv_emulator.specs.RunsAlike.{RunsAlike}
 use Rattle.rv_emulator.proofs.Alike.{runs_alike}
-use Rattle.sat_tool.specs.Emission.{HasOperands, expression_code, out_code, environment_code, code_of, memory_of, image_of}
-use Rattle.sat_tool.proofs.Bounds.{calls_of, calls_in}
+use Rattle.sat_tool.specs.Emission.{expression_code, out_code, environment_code, code_of, levels_of, memory_of, image_of}
+use Rattle.sat_tool.proofs.Sizes.{calls_of, calls_in}
+use Rattle.sat_tool.proofs.Nesting.{deepest-within, within-deepest}
 use Rattle.sat_tool.proofs.Places.{place, most_words, next_place, Stand, stand_left, stand_right, stand_whole}
 use Rattle.sat_tool.proofs.Leads.{Leads, leads_then, leads_by, leads_on, leads_nowhere, leads_to_same, leads_from_same, File, zero_file, here, at}
 use Rattle.sat_tool.proofs.Operators.{Is16}
@@ -34,7 +36,7 @@ counts_all : (es : List FirstExpr) (s : SourceState) → (after_outs es s).count
 counts_all [] s = omega arith
 counts_all (e ∷ es) s = omega (arith, counts e s, counts_all es (after_out e s))
 
-module _ (code : List ℕ) (input : List ℤ) where
+module _ (code : List ℕ) (input : List ℤ) (levels : ℕ) (few_levels : levels < 64) where
   -- the low 16 bits of x8 are written
   writes : (output : List ℤ) (k : ℕ) (f : File) (memory : List ℕ) → Is16 f.x8 → k + 3 ≤ most_words → Stand code k (Addi 10 8 (pos 0) ∷ environment_code (pos 3))
       → Leads code (at input output k f memory) (at input (output ++ low16 f.x8 ∷ []) (k + 3) (record f { x10 = f.x8; x17 = pos 3 }) memory)
@@ -77,17 +79,17 @@ module _ (code : List ℕ) (input : List ℤ) where
     pub new : List ℕ
     pub leads : Leads code (at input s.output k f memory) (at input (after_out e s).output (k + length (out_code e)) file new)
     pub agrees : Agrees (after_out e s) file
-    pub size : length new ≡ 64
+    pub size : length new ≡ 4 * levels
 
   -- one statement
-  writes_one : (k : ℕ) (e : FirstExpr) (s : SourceState) (f : File) (memory : List ℕ) → HasOperands e → depth_of e ≤ 16 → Stand code k (out_code e)
-      → k + length (out_code e) ≤ most_words → length memory ≡ 64 → s.count + calls_of e ≤ 131072 → Agrees s f → OneWritten k e s f memory
+  writes_one : (k : ℕ) (e : FirstExpr) (s : SourceState) (f : File) (memory : List ℕ) → HasOperands e → nesting_of e ≤ levels + 1 → Stand code k (out_code e)
+      → k + length (out_code e) ≤ most_words → length memory ≡ 4 * levels → s.count + calls_of e ≤ 131072 → Agrees s f → OneWritten k e s f memory
   writes_one k e s f memory operands shallow stand small size few agrees =
       let instrs = expression_code 0 e in
       let tail = Addi 10 8 (pos 0) ∷ environment_code (pos 3) in
       let n = length instrs in
       let all = out_length e in
-      let r = reaches code input s.output k 0 e s f memory operands (stand_left code k instrs tail stand) (omega arith) (omega arith) size few agrees in
+      let r = reaches code input s.output levels few_levels k 0 e s f memory operands (stand_left code k instrs tail stand) (omega arith) (omega arith) size few agrees in
       let is_16 = subst Is16 (sym r.value_is) (value_is_16 e operands) in
       let last : File = record (r.file) { x10 = r.file.x8; x17 = pos 3 } in
       let written = writes s.output (k + n) r.file r.new is_16 (omega arith) (stand_right code k instrs tail stand) in
@@ -105,8 +107,8 @@ module _ (code : List ℕ) (input : List ℤ) where
       }
 
   -- all of them
-  writes_all : (k : ℕ) (es : List FirstExpr) (s : SourceState) (f : File) (memory : List ℕ) → All HasOperands es → All (λ e. depth_of e ≤ 16) es
-      → Stand code k (flat_map out_code es) → k + length (flat_map out_code es) ≤ most_words → length memory ≡ 64 → s.count + calls_in es ≤ 131072 → Agrees s f
+  writes_all : (k : ℕ) (es : List FirstExpr) (s : SourceState) (f : File) (memory : List ℕ) → All HasOperands es → All (λ e. nesting_of e ≤ levels + 1) es
+      → Stand code k (flat_map out_code es) → k + length (flat_map out_code es) ≤ most_words → length memory ≡ 4 * levels → s.count + calls_in es ≤ 131072 → Agrees s f
       → Written k (length (flat_map out_code es)) s (after_outs es s) f memory
   writes_all k [] s f memory operands shallow stand small size few agrees = record {
     file = f;
@@ -119,8 +121,8 @@ module _ (code : List ℕ) (input : List ℤ) where
       let all : length (flat_map out_code (e ∷ es)) ≡ length (out_code e) + length rest = length-append (out_code e) rest in
       let count : s.count + (calls_of e + calls_in es) ≤ 131072 = few in
       let count_one = counts e s in
-      let one = writes_one k e s f memory (All-head HasOperands e es operands) (All-head (λ d. depth_of d ≤ 16) e es shallow) (stand_left code k (out_code e) rest stand) (omega arith) size (omega arith) agrees in
-      let others = writes_all (k + length (out_code e)) es (after_out e s) one.file one.new (All-tail HasOperands e es operands) (All-tail (λ d. depth_of d ≤ 16) e es shallow) (stand_right code k (out_code e) rest stand) (omega arith) one.size (omega arith) one.agrees in
+      let one = writes_one k e s f memory (All-head HasOperands e es operands) (All-head (λ d. nesting_of d ≤ levels + 1) e es shallow) (stand_left code k (out_code e) rest stand) (omega arith) size (omega arith) agrees in
+      let others = writes_all (k + length (out_code e)) es (after_out e s) one.file one.new (All-tail HasOperands e es operands) (All-tail (λ d. nesting_of d ≤ levels + 1) e es shallow) (stand_right code k (out_code e) rest stand) (omega arith) one.size (omega arith) one.agrees in
       let start = at input s.output k f memory in
       let last = (after_outs (e ∷ es) s).output in
       record {
@@ -133,7 +135,7 @@ module _ (code : List ℕ) (input : List ℤ) where
 
 -- ---- whole runs
 
-begins : (first : First) (input : List ℤ) → Leads (map encoded (code_of first)) (moment (Running (first_state (image_of first) input)) []) (at input [] 1 zero_file memory_of)
+begins : (first : First) (input : List ℤ) → Leads (map encoded (code_of first)) (moment (Running (first_state (image_of first) input)) []) (at input [] 1 zero_file (memory_of first))
 begins first input =
     let code = map encoded (code_of first) in
     let s = first_state (image_of first) input in
@@ -143,12 +145,21 @@ begins first input =
 as_count : (c : ℕ) → c ≤ 131072 → cast_unsigned w32 (pos 0) * 2 ^ 32 + cast_unsigned w32 (pos c) ≡ c
 as_count c small = grind (arith, ints)
 
-module _ (first : First) (operands : All HasOperands first.outs) (shallow : All (λ e. depth_of e ≤ 16) first.outs) (small : length (code_of first) ≤ most_words) (few : calls_in first.outs ≤ 131072) where
+module _ (first : First) (operands : All HasOperands first.outs) (shallow : All (λ e. nesting_of e ≤ 64) first.outs) (small : length (code_of first) ≤ most_words) (few : calls_in first.outs ≤ 131072) where
   abbrev code : List ℕ
   code = map encoded (code_of first)
 
   abbrev last : SourceState
   last = after_outs first.outs meaning.first_state
+
+  abbrev levels : ℕ
+  levels = levels_of first
+
+  few_levels : levels < 64
+  few_levels = omega (arith, deepest-within 64 first.outs shallow)
+
+  within : All (λ e. nesting_of e ≤ levels + 1) first.outs
+  within = within-deepest (levels + 1) first.outs (omega arith)
 
   runs_to_end : (input : List ℤ) → Leads code (moment (Running (first_state (image_of first) input)) []) (moment (Over (Ended last.overflow last.count)) last.output)
   runs_to_end input =
@@ -159,15 +170,15 @@ module _ (first : First) (operands : All HasOperands first.outs) (shallow : All 
       let whole : length (code_of first) ≡ 1 + n + 2 = omega (arith, length-append body ending) in
       let rest : Stand code 1 (body ++ ending) = stand_right code 0 (lui ∷ []) (body ++ ending) (stand_whole (code_of first)) in
       let total : last.count ≡ calls_in first.outs = omega (arith, counts_all first.outs meaning.first_state) in
-      let done = writes_all code input 1 first.outs meaning.first_state zero_file memory_of operands shallow (stand_left code 1 body ending rest) (omega arith) refl (omega arith) (record { count = refl; flag = refl }) in
+      let done = writes_all code input levels few_levels 1 first.outs meaning.first_state zero_file (memory_of first) operands within (stand_left code 1 body ending rest) (omega arith) (length-replicate (4 * levels) 0) (omega arith) (record { count = refl; flag = refl }) in
       let f = done.file in
-      let ended = ends code input last.output (1 + n) f done.new (omega arith) (stand_right code 1 body ending rest) in
+      let ended = ends code input levels few_levels last.output (1 + n) f done.new (omega arith) (stand_right code 1 body ending rest) in
       let flag : f.x27 ≡ last.overflow = done.agrees.flag in
       let count : cast_unsigned w32 (pos 0) * 2 ^ 32 + cast_unsigned w32 f.x24 ≡ last.count =
       ap (λ v. cast_unsigned w32 (pos 0) * 2 ^ 32 + cast_unsigned w32 v) done.agrees.count ∙ as_count last.count (omega arith) in
       let start = moment (Running (first_state (image_of first) input)) [] in
       let finish = moment (Over (Ended last.overflow last.count)) last.output in
-      leads_then code start (at input [] 1 zero_file memory_of) finish (begins first input) (leads_then code (at input [] 1 zero_file memory_of) (at input last.output (1 + n) f done.new) finish done.leads
+      leads_then code start (at input [] 1 zero_file (memory_of first)) finish (begins first input) (leads_then code (at input [] 1 zero_file (memory_of first)) (at input last.output (1 + n) f done.new) finish done.leads
       (subst (λ v. Leads code (at input last.output (1 + n) f done.new) (moment (Over (Ended v last.count)) last.output)) flag
       (subst (λ c. Leads code (at input last.output (1 + n) f done.new) (moment (Over (Ended f.x27 c)) last.output)) count ended)))
 

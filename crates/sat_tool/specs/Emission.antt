@@ -1,11 +1,11 @@
 -- The instructions and the site entries of a source of the first form. In a pattern `boxed e` is a box with e
 -- in it.
-use Rattle.std.specs.Prelude.{ℕ, ◌+◌, ◌*◌, ◌/◌, ℤ, pos, negsuc, ◌-ℤ◌, List, [], ◌∷◌, ◌++◌, length, map, replicate, unsigned_abs}
+use Rattle.std.specs.Prelude.{ℕ, ◌+◌, ◌-◌, ◌*◌, ◌/◌, max, ℤ, pos, negsuc, ◌-ℤ◌, List, [], ◌∷◌, ◌++◌, length, map, replicate, unsigned_abs}
 use Rattle.std.specs.List.{flat_map}
 use Rattle.sat_base.specs.declared.position.Pos.{Pos}
-use Rattle.c_reader.specs.declared.first.First.{First}
-use Rattle.c_reader.specs.declared.first.FirstExpr.{FirstExpr, Int, Add', Sub', more_of-FirstExpr as boxed}
-use Rattle.c_reader.specs.Form.{IsOperand}
+use Rattle.first_form.specs.declared.first.First.{First}
+use Rattle.first_form.specs.declared.first.FirstExpr.{FirstExpr, Int, Add', Sub', more_of-FirstExpr as boxed}
+use Rattle.first_form.specs.Form.{nesting_of}
 use Rattle.image_format.specs.declared.image.Image.{Image}
 use Rattle.image_format.specs.declared.image.SiteEntry.{SiteEntry}
 use Rattle.rv_encode.specs.declared.instruction.Instr.{Instr}
@@ -13,12 +13,6 @@ use Rattle.rv_encode.specs.declared.instruction.Instr.TheVariants.{Lui, Addi, Ad
 use Rattle.rv_encode.specs.Words.{encoded}
 use Rattle.sat_tool.specs.declared.emit.Operator.{Operator}
 use Rattle.sat_tool.specs.declared.emit.Operator.TheVariants as operator
-
--- the numbers of an expression are from 0 to 32767
-abbrev pub HasOperands : FirstExpr → Type 0
-HasOperands (Int n) = IsOperand n
-HasOperands (Add' tok at _ (boxed left _) _ (boxed right _)) = HasOperands left × HasOperands right
-HasOperands (Sub' tok at _ (boxed left _) _ (boxed right _)) = HasOperands left × HasOperands right
 
 -- ---- registers: x8 and x9 have operands and results, x10 and x17 what a call takes, x24 the lower half of
 -- the count, x26 where the data memory begins, x27 Overflow, and x5 and x6 what a clip compares with
@@ -128,9 +122,17 @@ entries_from start (e ∷ es) = expression_entries start 0 e ++ entries_from (st
 
 -- ---- the image
 
--- the bytes of the data memory: a word for each depth of nesting
-abbrev pub memory_of : List ℕ
-memory_of = replicate 64 0
+-- how many calls lie one in another in these expressions at most
+abbrev pub deepest_of : List FirstExpr → ℕ
+deepest_of [] = 0
+deepest_of (e ∷ es) = max (nesting_of e) (deepest_of es)
+
+-- how many words the data memory has: one for each level of calls below the outermost
+abbrev pub levels_of : First → ℕ
+levels_of first = deepest_of first.outs - 1
+
+abbrev pub memory_of : First → List ℕ
+memory_of first = replicate (4 * levels_of first) 0
 
 abbrev pub image_of : First → Image
-image_of first = record { code = map encoded (code_of first); memory = memory_of; sites = entries_from 1 first.outs }
+image_of first = record { code = map encoded (code_of first); memory = memory_of first; sites = entries_from 1 first.outs }

@@ -2,13 +2,14 @@
 -- theirs is counted in the run.
 use Rattle.std.specs.Prelude.{◌≡◌, ℕ, ◌⊎◌, List, ◌++◌, length, Some}
 use Rattle.std.specs.FinMap as map
-use Rattle.c_reader.specs.declared.first.First.{First}
+use Rattle.first_form.specs.declared.first.First.{First}
 use Rattle.image_format.specs.declared.image.Image.{Image}
 use Rattle.store_io.specs.Outside.{Files, IsCalm}
 use Rattle.sat_tool.specs.Accepted.{IsAccepted, IsRefused, Compiles}
 use Rattle.sat_tool.specs.Command.{Build, IsCommand}
 use Rattle.image_format.specs.ImageBytes.{image_bytes}
-use Rattle.sat_tool.specs.Lines.{sites_line, not_yet_line}
+use Rattle.sat_tool.specs.Lines.{sites_line}
+use Rattle.sat_tool.specs.Refusals.{MayShow}
 use Rattle.sat_tool.specs.Run.{StoreView, SinkView}
 use Rattle.sat_tool.specs.Sites.{sites_of}
 
@@ -34,10 +35,10 @@ BuildsAccepted words store_old store_new sink_old sink_new status =
     × (store_new.files ≡ Some (map.insert files target (image_bytes image)))
     × (sink_new.written ≡ Some (written ++ sites_line (length (sites_of first))))))
 
--- Any other text is refused: the status is 1, the files are as before, and the line of the refusal is put.
+-- Any other text is refused: the status is 1, the files are as before, and the line that tells why is put.
 abbrev pub RefusesOthers : List (List ℕ) → StoreView → StoreView → SinkView → SinkView → ℕ → Type 0
 RefusesOthers words store_old store_new sink_old sink_new status =
     (files : Files) (written source target text : List ℕ)
     → IsHonest words store_old store_new sink_old sink_new files written source target text → IsRefused text
     → (status ≡ 3)
-    ⊎ ((status ≡ 1) × (store_new.files ≡ Some files) × (sink_new.written ≡ Some (written ++ not_yet_line)))
+    ⊎ ((status ≡ 1) × (store_new.files ≡ Some files) × ((line : List ℕ) × MayShow text line × (sink_new.written ≡ Some (written ++ line))))

@@ -1,13 +1,17 @@
 -- The outcome of a job in the code, and the job that it stands for.
-use Rattle.std.specs.Prelude.{◌≡◌, ℕ, List, string_bytes}
+use Rattle.std.specs.Prelude.{◌≡◌, ◌≢◌, ℕ, List, string_bytes}
 use Rattle.image_format.specs.declared.image.Image.{Image}
 use Rattle.store_io.specs.Outside.{Rose, WritesPart, files_with}
+use Rattle.sat_tool.specs.declared.compile.CompileRefusal.{CompileRefusal}
+use Rattle.sat_tool.specs.declared.compile.CompileRefusal.TheVariants as refusals
 use Rattle.sat_tool.specs.declared.outcome.Outcome.{Outcome}
 use Rattle.sat_tool.specs.declared.outcome.Status.{Status}
 use Rattle.sat_tool.specs.declared.outcome.Status.TheVariants as statuses
-use Rattle.sat_tool.specs.Accepted.{IsRefused, IsImageOf}
+use Rattle.sat_tool.specs.Accepted.{IsImageOf}
 use Rattle.sat_tool.specs.Command.{Command}
 use Rattle.image_format.specs.ImageBytes.{image_bytes}
+use Rattle.sat_tool.specs.Lines.{refusal_line}
+use Rattle.sat_tool.specs.Refusals.{MayShow}
 use Rattle.sat_tool.specs.Run.{StoreView, Job, Done, Refused, NoCommand, NoMemory, Missing, CannotRead, CannotWrite, status_of, text_of, Serves, HasCause}
 
 abbrev pub status_code : Status → ℕ
@@ -36,7 +40,7 @@ IsServed command old new outcome = (job : Job) × StandsFor outcome job × Serve
 -- what the text of a source comes to, whose image is to get this name
 abbrev pub ServesText : List ℕ → List ℕ → StoreView → StoreView → Job → Type 0
 ServesText text target old new (Done image) = IsImageOf text image × (new.files ≡ files_with old.files target (image_bytes image))
-ServesText text target old new Refused = IsRefused text × (new.files ≡ old.files)
+ServesText text target old new (Refused line) = MayShow text line × (new.files ≡ old.files)
 ServesText text target old new NoCommand = ⊥
 ServesText text target old new NoMemory = ⊥
 ServesText text target old new (Missing name) = ⊥
@@ -51,3 +55,9 @@ IsTextServed text target old new outcome = (job : Job) × StandsFor outcome job 
 abbrev pub IsImageServed : Image → List ℕ → StoreView → StoreView → Outcome → Type 0
 IsImageServed image target old new outcome =
     (text : List ℕ) → IsImageOf text image → IsTextServed text target old new outcome
+
+-- what a refusal comes to, unless it is want of memory
+pub record TellsOf (refusal : CompileRefusal) (outcome : Outcome) : Type 0 where
+  pub other : refusal ≢ refusals.Memory
+  pub status : outcome.status ≡ statuses.Refused
+  pub text : string_bytes outcome.text ≡ refusal_line refusal

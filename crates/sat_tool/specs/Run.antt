@@ -3,10 +3,11 @@ use Rattle.std.specs.Prelude.{◌≡◌, ℕ, ◌≤◌, ◌⊎◌, List, length
 use Rattle.std.specs.FinMap as map
 use Rattle.image_format.specs.declared.image.Image.{Image}
 use Rattle.store_io.specs.Outside.{Files, Rose, IsMissing, WritesPart, files_with, text_with, GrowsByPart}
-use Rattle.sat_tool.specs.Accepted.{IsRefused, IsImageOf}
+use Rattle.sat_tool.specs.Accepted.{IsImageOf}
 use Rattle.sat_tool.specs.Command.{Command, Build, IsCommand, IsNoCommand}
 use Rattle.image_format.specs.ImageBytes.{image_bytes}
-use Rattle.sat_tool.specs.Lines.{sites_line, not_yet_line, usage_line, memory_line, missing_line, cannot_read_line, cannot_write_line}
+use Rattle.sat_tool.specs.Lines.{sites_line, usage_line, memory_line, missing_line, cannot_read_line, cannot_write_line}
+use Rattle.sat_tool.specs.Refusals.{MayShow}
 
 -- what is seen of a store, and of a sink, at a moment
 pub record StoreView : Type 0 where
@@ -27,8 +28,8 @@ sink_view written faults = record { written = written; faults = faults }
 pub data Job : Type 0 where
   -- the source was compiled and its image written
   Done : Image → Job
-  -- the source is not accepted
-  Refused : Job
+  -- the source is not accepted, as this line tells
+  Refused : (line : List ℕ) → Job
   -- the words are no command
   NoCommand : Job
   -- want of memory
@@ -40,7 +41,7 @@ pub data Job : Type 0 where
 
 abbrev pub status_of : Job → ℕ
 status_of (Done image) = 0
-status_of Refused = 1
+status_of (Refused line) = 1
 status_of NoCommand = 2
 status_of NoMemory = 3
 status_of (Missing name) = 4
@@ -49,7 +50,7 @@ status_of (CannotWrite name) = 4
 
 abbrev pub text_of : Job → List ℕ
 text_of (Done image) = sites_line (length image.sites)
-text_of Refused = not_yet_line
+text_of (Refused line) = line
 text_of NoCommand = usage_line
 text_of NoMemory = memory_line
 text_of (Missing name) = missing_line name
@@ -67,8 +68,8 @@ IsTextOf (Some told) name text = map.get told name ≡ Some text
 abbrev pub Serves : Command → StoreView → StoreView → Job → Type 0
 Serves (Build source target) old new (Done image) =
     (text : List ℕ) × IsTextOf old.files source text × IsImageOf text image × (new.files ≡ files_with old.files target (image_bytes image))
-Serves (Build source target) old new Refused =
-    (text : List ℕ) × IsTextOf old.files source text × IsRefused text × (new.files ≡ old.files)
+Serves (Build source target) old new (Refused line) =
+    (text : List ℕ) × IsTextOf old.files source text × MayShow text line × (new.files ≡ old.files)
 Serves (Build source target) old new NoCommand = ⊥
 Serves (Build source target) old new NoMemory = new.files ≡ old.files
 Serves (Build source target) old new (Missing name) =

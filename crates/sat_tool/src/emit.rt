@@ -2,12 +2,13 @@
 
 ghost use Rattle.std.specs.Prelude.{◌≡◌, ◌+◌, ◌<◌, ◌≤◌, ◌∷◌, [], ◌++◌, length, map, All, IfOk, OnOk};
 ghost use Rattle.std.specs.List.{flat_map};
-ghost use Rattle.c_reader.specs.Form.{IsOperand, depth_of};
-ghost use Rattle.c_reader.specs.declared.first.TheConstants.{NESTING};
+ghost use Rattle.first_form.specs.Form.{IsOperand, HasOperands, nesting_of};
+ghost use Rattle.sat_base.specs.declared.limits.TheConstants.{DEPTH};
 ghost use Rattle.rv_encode.specs.Words.{Fits, IsRegister, IsWithin, encoded};
-ghost use Rattle.sat_tool.specs.Emission.{clip_code, number_code, operator_code, call_code, operand_code, expression_code, environment_code, out_code, code_of, kind_of, entry_of, call_entries, expression_entries, entries_from, image_of, HasOperands, slot};
+ghost use Rattle.sat_tool.specs.Emission.{clip_code, number_code, operator_code, call_code, operand_code, expression_code, environment_code, out_code, code_of, kind_of, entry_of, call_entries, expression_entries, entries_from, image_of, slot};
 
-use c_reader::{First, FirstExpr};
+use crate::memory::memory_len;
+use first_form::{First, FirstExpr};
 use image_format::{Image, SiteEntry};
 use rv_encode::{Instr, encode};
 use sat_base::Pos;
@@ -16,9 +17,6 @@ use std::alloc::{AllocError, Global};
 
 /// How many words of code an image can hold.
 const MOST_WORDS: usize = 16_777_216;
-
-/// The bytes of the data memory: a word for each depth of nesting.
-const MEMORY_BYTES: usize = 64;
 
 /// The operators that a source may call.
 #[derive(Clone, Copy, Debug, PartialEq, Eq)]
@@ -42,7 +40,7 @@ impl Operator {
 /// The image of a source: its code, its data memory, and an entry for each of its sites.
 pub fn image_of(alloc: Global, first: &First) -> Result<Image, AllocError>
     requires operands { All HasOperands first.now.outs }
-    requires nesting { All (λ e. depth_of e ≤ NESTING) first.now.outs }
+    requires nesting { All (λ e. nesting_of e ≤ DEPTH) first.now.outs }
     requires fits { length (code_of first.now) ≤ MOST_WORDS }
     ensures { IfOk result (λ image. image ≡ image_of first.now) }
 {
@@ -51,7 +49,7 @@ pub fn image_of(alloc: Global, first: &First) -> Result<Image, AllocError>
     push(&mut code, lui(26, 0x1_0000))?;
     push_outs(&mut code, &mut sites, first.outs.as_slice())?;
     push_environment(&mut code, 4)?;
-    let memory = vec![in alloc; 0; MEMORY_BYTES]?;
+    let memory = vec![in alloc; 0; memory_len(first)]?;
     Ok(Image {
         code: Items::from_vec(code),
         memory: Items::from_vec(memory),
@@ -66,7 +64,7 @@ fn push_outs(
     outs: &[FirstExpr],
 ) -> Result<(), AllocError>
     requires operands { All HasOperands outs.now }
-    requires nesting { All (λ e. depth_of e ≤ NESTING) outs.now }
+    requires nesting { All (λ e. nesting_of e ≤ DEPTH) outs.now }
     requires fits { length code.old.items + length (flat_map out_code outs.now) ≤ MOST_WORDS }
     ensures code { OnOk result (code.new.items ≡ code.old.items ++ map encoded (flat_map out_code outs.now)) }
     ensures sites { OnOk result (sites.new.items ≡ sites.old.items ++ entries_from (length code.old.items) outs.now) }
@@ -84,7 +82,7 @@ fn push_out(
     expr: &FirstExpr,
 ) -> Result<(), AllocError>
     requires operands { HasOperands expr.now }
-    requires nesting { depth_of expr.now ≤ NESTING }
+    requires nesting { nesting_of expr.now ≤ DEPTH }
     requires fits { length code.old.items + length (out_code expr.now) ≤ MOST_WORDS }
     ensures code { OnOk result (code.new.items ≡ code.old.items ++ map encoded (out_code expr.now)) }
     ensures sites { OnOk result (sites.new.items ≡ sites.old.items ++ expression_entries (length code.old.items) 0 expr.now) }
@@ -123,7 +121,7 @@ fn push_expression(
     expr: &FirstExpr,
 ) -> Result<(), AllocError>
     requires operands { HasOperands expr.now }
-    requires nesting { depth + depth_of expr.now ≤ NESTING }
+    requires nesting { depth + nesting_of expr.now ≤ DEPTH }
     requires fits { length code.old.items + length (expression_code depth expr.now) ≤ MOST_WORDS }
     ensures code { OnOk result (code.new.items ≡ code.old.items ++ map encoded (expression_code depth expr.now)) }
     ensures sites { OnOk result (sites.new.items ≡ sites.old.items ++ expression_entries (length code.old.items) depth expr.now) }
@@ -178,8 +176,8 @@ fn push_call(
 ) -> Result<(), AllocError>
     requires left { HasOperands left.now }
     requires right { HasOperands right.now }
-    requires left_nesting { depth + depth_of left.now < NESTING }
-    requires right_nesting { depth + depth_of right.now < NESTING }
+    requires left_nesting { depth + nesting_of left.now < DEPTH }
+    requires right_nesting { depth + nesting_of right.now < DEPTH }
     requires fits { length code.old.items + length (call_code operator (expression_code depth left.now)
         (operand_code depth right.now (expression_code (depth + 1) right.now))) ≤ MOST_WORDS }
     ensures code { OnOk result (code.new.items ≡ code.old.items ++ map encoded (call_code operator (expression_code depth left.now)
@@ -207,7 +205,7 @@ fn push_operand(
     expr: &FirstExpr,
 ) -> Result<(), AllocError>
     requires operands { HasOperands expr.now }
-    requires nesting { depth + depth_of expr.now < NESTING }
+    requires nesting { depth + nesting_of expr.now < DEPTH }
     requires fits { length code.old.items + length (operand_code depth expr.now (expression_code (depth + 1) expr.now)) ≤ MOST_WORDS }
     ensures code { OnOk result (code.new.items ≡ code.old.items ++ map encoded (operand_code depth expr.now (expression_code (depth + 1) expr.now))) }
     ensures sites { OnOk result (sites.new.items ≡ sites.old.items ++ expression_entries (length code.old.items + 1) (depth + 1) expr.now) }

@@ -17,9 +17,14 @@ struct Expected<'a> {
     sites: usize,
 }
 
-// Compiles a source, runs its image, and compares.
+// Compiles a source that is a frame around statements, runs its image, and compares.
 fn agrees(alloc: Global, statements: &str, expected: &Expected<'_>) -> Result<bool, Fail> {
     let source = format!(in alloc; "int main(void){{{statements}return 0;}}")?;
+    source_agrees(alloc, &source, expected)
+}
+
+// Compiles a source, runs its image, and compares.
+fn source_agrees(alloc: Global, source: &str, expected: &Expected<'_>) -> Result<bool, Fail> {
     let built = match compile(alloc, source.as_bytes()) {
         Ok(built) => built,
         Err(refusal) => return Err(Fail::from(refusal)),
@@ -111,6 +116,16 @@ fn images_run_as_their_sources(rt: HostRuntime) -> Result<(), Fail> {
 }
 
 #[test]
+fn defined_names_are_their_values(rt: HostRuntime) -> Result<(), Fail> {
+    let source = "#define A 5\nint main(void){sample_out(add(A, 1));return 0;}";
+    assert!(rt; source_agrees(rt.alloc(), source, &writes(&[6], 0, 1, 1))?);
+    let brackets = "int main(void){sample_out((add((A), ((2)))));return (0);}";
+    let source = format!(in rt.alloc(); "/* five */ #define A 0x5\n{brackets}")?;
+    assert!(rt; source_agrees(rt.alloc(), &source, &writes(&[7], 0, 1, 1))?);
+    Ok(())
+}
+
+#[test]
 fn a_hundred_statements(rt: HostRuntime) -> Result<(), Fail> {
     let alloc = rt.alloc();
     let mut statements = String::new(alloc);
@@ -120,5 +135,31 @@ fn a_hundred_statements(rt: HostRuntime) -> Result<(), Fail> {
         samples.push(number + 1)?;
     }
     assert!(rt; agrees(alloc, &statements, &writes(&samples, 0, 100, 100))?);
+    Ok(())
+}
+
+// The bytes of the data memory of a source's image.
+fn memory_of(alloc: Global, statements: &str) -> Result<usize, Fail> {
+    let source = format!(in alloc; "int main(void){{{statements}return 0;}}")?;
+    match compile(alloc, source.as_bytes()) {
+        Ok(built) => Ok(built.image.memory.len()),
+        Err(refusal) => Err(Fail::from(refusal)),
+    }
+}
+
+#[test]
+fn each_level_below_the_outermost_call_has_a_word(rt: HostRuntime) -> Result<(), Fail> {
+    for (statements, bytes) in [
+        ("", 0),
+        ("sample_out(7);", 0),
+        ("sample_out(add(1,2));", 0),
+        ("sample_out(add(1,sub(2,3)));sample_out(4);", 4),
+        (
+            "sample_out(sub(1,2));sample_out(add(add(1,sub(2,3)),4));",
+            8,
+        ),
+    ] {
+        assert_eq!(rt; memory_of(rt.alloc(), statements)?, bytes, "{statements:?}");
+    }
     Ok(())
 }

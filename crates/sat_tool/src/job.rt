@@ -5,7 +5,7 @@ ghost use Rattle.sat_tool.specs.Accepted.{IsSmall};
 ghost use Rattle.sat_tool.specs.Command.{Build};
 ghost use Rattle.sat_tool.specs.Words.{asked_by};
 ghost use Rattle.sat_tool.specs.Run.{store_view, HasCause, NoMemory};
-ghost use Rattle.sat_tool.specs.Outcomes.{StandsFor, IsCaused, IsServed, IsTextServed, IsImageServed};
+ghost use Rattle.sat_tool.specs.Outcomes.{StandsFor, IsCaused, IsServed, IsTextServed, IsImageServed, TellsOf};
 
 use crate::compile::{CompileRefusal, compile};
 use crate::line::Line;
@@ -77,8 +77,21 @@ fn build_text<S: Store>(
 {
     match compile(alloc, text) {
         Ok(built) => write_image(alloc, store, &built.image, image),
-        Err(CompileRefusal::NotYet) => Outcome::new(alloc, Status::Refused, Line::NotYet),
-        Err(CompileRefusal::Memory) => Err(Memory),
+        Err(refusal) => refused(alloc, refusal),
+    }
+}
+
+// What the refusal of a text comes to.
+fn refused(alloc: Global, refusal: CompileRefusal) -> Result<Outcome, Memory>
+    ensures { IfOk result (TellsOf refusal) }
+{
+    match refusal {
+        CompileRefusal::TooLong
+        | CompileRefusal::Lex(_)
+        | CompileRefusal::Syntax { .. }
+        | CompileRefusal::TooDeep { .. }
+        | CompileRefusal::NotYet => Outcome::new(alloc, Status::Refused, Line::Refused(refusal)),
+        CompileRefusal::Memory => Err(Memory),
     }
 }
 

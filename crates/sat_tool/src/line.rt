@@ -2,6 +2,7 @@
 
 ghost use Rattle.std.specs.Prelude.{Some};
 
+use crate::compile::CompileRefusal;
 use std::fmt;
 
 /// A line of text for the user.
@@ -9,8 +10,8 @@ use std::fmt;
 pub enum Line<'a> {
     /// The report: how many sites the source has.
     Sites(usize),
-    /// The source is not accepted.
-    NotYet,
+    /// The source is not accepted, where and why.
+    Refused(CompileRefusal),
     /// The words are no command.
     Usage,
     /// The store has no file of this name.
@@ -29,7 +30,11 @@ impl fmt::Display for Line<'_> {
     fn fmt<W: fmt::Write>(&self, f: &mut fmt::Formatter<W>) -> fmt::Result {
         match self {
             Line::Sites(count) => writeln!(f, "sites {count}"),
-            Line::NotYet => writeln!(f, "error 1:1 not yet"),
+            Line::Refused(refusal) => {
+                let at = refusal.place();
+                let words = refusal.words();
+                writeln!(f, "error {}:{} {words}", at.line, at.col)
+            }
             Line::Usage => writeln!(f, "usage: satc build SRC IMG"),
             Line::Missing(name) => writeln!(f, "missing {name}"),
             Line::CannotRead(name) => writeln!(f, "cannot read {name}"),

@@ -9,7 +9,10 @@ mod failure_tests;
 mod image_tests;
 mod job;
 mod line;
+mod memory;
 mod outcome;
+#[cfg(test)]
+mod refusal_tests;
 mod satc;
 #[cfg(test)]
 mod tests;

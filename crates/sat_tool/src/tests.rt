@@ -13,13 +13,17 @@ const CLIP: &str = "int main(void)\n{\n  sample_out(add(32767, 1));\n  return 0;
 const NOTHING: &str = "int main(void){return 0;}";
 
 /// Calls nested 17 deep.
-const TOO_DEEP: &str = "int main(void){sample_out(add(add(add(add(add(add(add(add(add(add(add(add(\
+const NESTED: &str = "int main(void){sample_out(add(add(add(add(add(add(add(add(add(add(add(add(\
 add(add(add(add(add(1,1),1),1),1),1),1),1),1),1),1),1),1),1),1),1),1),1));return 0;}";
 
 const USAGE: &str = "usage: satc build SRC IMG\n";
 
-// What a run on these words leaves in the sink, over a store that has this source as `a.c`.
-fn told(alloc: Global, source: &[u8], words: &[&str]) -> Result<(u8, CalmSink, CalmStore), Fail> {
+/// What a run on these words leaves in the sink, over a store that has this source as `a.c`.
+pub(crate) fn told(
+    alloc: Global,
+    source: &[u8],
+    words: &[&str],
+) -> Result<(u8, CalmSink, CalmStore), Fail> {
     let file = Entry {
         name: Items::from_slice(alloc, b"a.c")?,
         bytes: Items::from_slice(alloc, source)?,
@@ -40,15 +44,17 @@ fn builds_and_refuses(rt: HostRuntime) -> Result<(), Fail> {
     let build: &[&str] = &["build", "a.c", "a.img"];
     let clipped_twice = "int main(void){sample_out(sub(add(32767, 1), 32767));return 0;}";
     let two = "int main(void){sample_out(7);sample_out(add(1,sub(2,3)));return 0;}";
+    let defined = "#define A 5\nint main(void){sample_out(add(A, 1));return 0;}";
     let not_closed = "int main(void){sample_out(add(1,2);return 0;}";
     for (source, words, status, text) in [
         (CLIP, build, 0, "sites 1\n"),
         (NOTHING, build, 0, "sites 0\n"),
         (clipped_twice, build, 0, "sites 2\n"),
         (two, build, 0, "sites 2\n"),
-        ("", build, 1, "error 1:1 not yet\n"),
-        (not_closed, build, 1, "error 1:1 not yet\n"),
-        (TOO_DEEP, build, 1, "error 1:1 not yet\n"),
+        (NESTED, build, 0, "sites 17\n"),
+        (defined, build, 0, "sites 1\n"),
+        ("", build, 1, "error 1:1 syntax\n"),
+        (not_closed, build, 1, "error 1:35 syntax\n"),
         ("int main(void){return 1;}", build, 1, "error 1:1 not yet\n"),
         (CLIP, &["build", "b.c", "a.img"], 4, "missing b.c\n"),
         (CLIP, &[], 2, USAGE),
@@ -64,14 +70,5 @@ fn builds_and_refuses(rt: HostRuntime) -> Result<(), Fail> {
         assert_eq!(rt; out.bytes(), text.as_bytes(), "{source:?}");
         assert_eq!(rt; store.file("a.img").is_some(), status == 0, "{source:?}");
     }
-    Ok(())
-}
-
-#[test]
-fn a_text_past_the_limit_is_refused(rt: HostRuntime) -> Result<(), Fail> {
-    let spaces = vec![in rt.alloc(); b' '; 1_048_577]?;
-    let (status, out, _store) = told(rt.alloc(), &spaces, &["build", "a.c", "a.img"])?;
-    assert_eq!(rt; status, 1);
-    assert_eq!(rt; out.bytes(), b"error 1:1 not yet\n".as_slice());
     Ok(())
 }

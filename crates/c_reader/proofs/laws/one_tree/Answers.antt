@@ -1,4 +1,4 @@
-use Rattle.c_reader.proofs.Sources.{one_tree}
+use Rattle.c_reader.proofs.ReadWhole.{one_tree}
 use Rattle.c_reader.proofs.laws.one_tree.Goals as goal
 
 pub returns : goal.returns

@@ -1,29 +1,33 @@
-use Rattle.std.proofs.Common.{◌≡◌, Err, refl, ap}
-use Rattle.std.proofs.lemmas.Result.{err_from_is_err_and}
-use Rattle.c_reader.specs.declared.first.FirstRefusal.{FirstRefusal}
-use Rattle.c_reader.specs.declared.first.FirstRefusal.TheVariants as first
-use Rattle.sat_tool.specs.declared.compile.CompileRefusal.{CompileRefusal}
-use Rattle.sat_tool.specs.declared.compile.CompileRefusal.TheVariants.{NotYet}
-use Rattle.sat_tool.specs.Refusals.{passed_on}
-use Rattle.sat_tool.proofs.Bounds.{operands_of, code_small}
-use Rattle.sat_tool.proofs.Compiled.{image_is}
+use Rattle.std.proofs.Common.{◌≤◌, length, arith}
+use Rattle.sat_base.specs.declared.limits.TheConstants.{SOURCE_BYTES}
+use Rattle.sat_tool.proofs.Compiled.{IsReadAs, read_as, operands_of, nested_little, few_tokens, image_is}
+use Rattle.sat_tool.proofs.Sizes.{code_small}
 use Rattle.sat_tool.proofs.compile.compile.Goals as goal
 
-passed_back : (refusal : FirstRefusal) → ◌≡◌ (passed_on refusal) NotYet → ◌≡◌ {A = FirstRefusal} refusal first.NotYet
-passed_back first.NotYet e = refl
-passed_back first.Memory e = cc
-
-pub returns-in_err-first-clause-refused : goal.returns-in_err-first-clause-refused
-returns-in_err-first-clause-refused c =
-    let p = err_from_is_err_and c.from_residual.result c.from_residual.ensures.1 in
-    λ e. let f = p.1 in let is = p.2 in let at : ◌≡◌ {A = CompileRefusal} (passed_on c.in_err-first.field-0.0) NotYet = cc in
-    let refused = c.in_err-first.ensures.refused (ap Err (passed_back c.in_err-first.field-0.0 at)) in λ first accepted. refused (first, accepted)
-
-pub returns-clause-built : goal.returns-clause-built
-returns-clause-built c = image_is c.in_ok-first.first c.args.text.now c.in_ok-image.image c.in_ok-first.ensures.found c.in_ok-image.ensures
-
 pub image_of-requires-clause-operands : goal.image_of-requires-clause-operands
-image_of-requires-clause-operands c = operands_of c.in_ok-first.first c.args.text.now c.in_ok-first.ensures.found
+image_of-requires-clause-operands c =
+    let short : length c.args.text.now ≤ SOURCE_BYTES = omega arith in
+    let read = read_as c.args.text.now c.in_ok-tokens.tokens c.in_ok-program.program c.in_ok-first.field-0 c.in-Some.first
+    short c.in_ok-tokens.ensures.cut c.in_ok-tokens.ensures.few c.in_ok-program.ensures.tree c.in_ok-program.ensures.shallow c.in_ok-first.ensures.found c.in-Some.is in
+    operands_of _ _ _ c.in-Some.first read
+
+pub image_of-requires-clause-nesting : goal.image_of-requires-clause-nesting
+image_of-requires-clause-nesting c =
+    let short : length c.args.text.now ≤ SOURCE_BYTES = omega arith in
+    let read = read_as c.args.text.now c.in_ok-tokens.tokens c.in_ok-program.program c.in_ok-first.field-0 c.in-Some.first
+    short c.in_ok-tokens.ensures.cut c.in_ok-tokens.ensures.few c.in_ok-program.ensures.tree c.in_ok-program.ensures.shallow c.in_ok-first.ensures.found c.in-Some.is in
+    nested_little _ _ _ c.in-Some.first read
 
 pub image_of-requires-clause-fits : goal.image_of-requires-clause-fits
-image_of-requires-clause-fits c = code_small c.in_ok-first.first c.args.text.now c.in_ok-first.ensures.found
+image_of-requires-clause-fits c =
+    let short : length c.args.text.now ≤ SOURCE_BYTES = omega arith in
+    let read = read_as c.args.text.now c.in_ok-tokens.tokens c.in_ok-program.program c.in_ok-first.field-0 c.in-Some.first
+    short c.in_ok-tokens.ensures.cut c.in_ok-tokens.ensures.few c.in_ok-program.ensures.tree c.in_ok-program.ensures.shallow c.in_ok-first.ensures.found c.in-Some.is in
+    code_small c.in-Some.first (few_tokens _ _ _ c.in-Some.first read)
+
+pub returns-clause-built : goal.returns-clause-built
+returns-clause-built c =
+    let short : length c.args.text.now ≤ SOURCE_BYTES = omega arith in
+    let read = read_as c.args.text.now c.in_ok-tokens.tokens c.in_ok-program.program c.in_ok-first.field-0 c.in-Some.first
+    short c.in_ok-tokens.ensures.cut c.in_ok-tokens.ensures.few c.in_ok-program.ensures.tree c.in_ok-program.ensures.shallow c.in_ok-first.ensures.found c.in-Some.is in
+    image_is _ _ _ c.in-Some.first read c.in_ok-image.image c.in_ok-image.ensures

@@ -1,14 +1,14 @@
 use Rattle.std.proofs.Common.{rules, ◌≡◌, ◌+◌, ◌≤◌, ◌++◌, ℕ, List, length, map, max, ap, sym, ◌∙◌, subst, arith}
 use Rattle.std.proofs.Math.Nat.{le-max_left, le-max_right}
 use Rattle.std.proofs.lemmas.Result.{on_ok_weaker}
-use Rattle.c_reader.specs.Form.{depth_of}
-use Rattle.c_reader.specs.declared.first.FirstExpr.TheVariants.{Add, Sub}
+use Rattle.first_form.specs.Form.{HasOperands, nesting_of}
+use Rattle.first_form.specs.declared.first.FirstExpr.TheVariants.{Add, Sub}
 use Rattle.image_format.specs.declared.image.SiteEntry.{SiteEntry}
 use Rattle.rv_encode.specs.declared.instruction.Instr.{Instr}
 use Rattle.rv_encode.specs.Words.{encoded}
 use Rattle.sat_tool.specs.declared.emit.TheConstants.{MOST_WORDS}
-use Rattle.sat_tool.specs.Emission.{operand_code, expression_code, expression_entries, entry_of, HasOperands}
-use Rattle.c_reader.proofs.Boxes.{depth_of-Add, depth_of-Sub}
+use Rattle.sat_tool.specs.Emission.{operand_code, expression_code, expression_entries, entry_of}
+use Rattle.first_form.proofs.Calls.{nesting_of-Add, nesting_of-Sub}
 use Rattle.sat_tool.proofs.Expressions.{code_of_add, code_of_sub, entries_of_add, entries_of_sub, operands_of_add, operands_of_sub, room_for_right, sites_of_call}
 use Rattle.sat_tool.proofs.emit.+expression.Goals as goal
 
@@ -16,7 +16,7 @@ pub push_call-push_operand-requires : goal.push_call-push_operand-requires
 push_call-push_operand-requires t c =
     let depth = c.args.depth in
     let right = c.args.right.now in
-    let at_most = le-max_right (depth_of c.args.left.now) (depth_of right) in
+    let at_most = le-max_right (nesting_of c.args.left.now) (nesting_of right) in
     let room = room_for_right MOST_WORDS c.args.code.now.items c.push_expression.new.code.items (expression_code depth c.args.left.now) (operand_code depth right (expression_code (depth + 1) right)) _ c.requires.fits c.in_ok-push_expression.ensures.code in
     (omega (arith, at_most, c.decreases), (c.requires.right, (c.requires.right_nesting, room)))
 
@@ -36,10 +36,10 @@ push_expression-push_call-requires t c =
     let right = c.get-in-Add.result.now in
     let is : c.args.expr.now ≡ Add c.in-Add.tok c.in-Add.pos left right = cc in
     let operands = operands_of_add c.in-Add.tok c.in-Add.pos left right (subst HasOperands is c.requires.operands) in
-    let deep : depth_of c.args.expr.now ≡ max (depth_of left) (depth_of right) + 1 = ap depth_of is ∙ depth_of-Add c.in-Add.tok c.in-Add.pos left right in
+    let deep : nesting_of c.args.expr.now ≡ max (nesting_of left) (nesting_of right) + 1 = ap nesting_of is ∙ nesting_of-Add c.in-Add.tok c.in-Add.pos left right in
     let code = ap (expression_code c.args.depth) is ∙ code_of_add c.args.depth c.in-Add.tok c.in-Add.pos left right in
-    let at_left = le-max_left (depth_of left) (depth_of right) in
-    let at_right = le-max_right (depth_of left) (depth_of right) in
+    let at_left = le-max_left (nesting_of left) (nesting_of right) in
+    let at_right = le-max_right (nesting_of left) (nesting_of right) in
     let nesting = c.requires.nesting in
     let fits = subst (λ (words : List Instr). length c.args.code.now.items + length words ≤ MOST_WORDS) code c.requires.fits in
     (omega (arith, deep, at_left, at_right, c.decreases), (operands.0, (operands.1, (omega (arith, deep, at_left, nesting), (omega (arith, deep, at_right, nesting), fits)))))
@@ -67,10 +67,10 @@ push_expression-push_call-requires-in-Sub t c =
     let right = c.get-in-Sub-2.result.now in
     let is : c.args.expr.now ≡ Sub c.in-Sub.tok c.in-Sub.pos left right = cc in
     let operands = operands_of_sub c.in-Sub.tok c.in-Sub.pos left right (subst HasOperands is c.requires.operands) in
-    let deep : depth_of c.args.expr.now ≡ max (depth_of left) (depth_of right) + 1 = ap depth_of is ∙ depth_of-Sub c.in-Sub.tok c.in-Sub.pos left right in
+    let deep : nesting_of c.args.expr.now ≡ max (nesting_of left) (nesting_of right) + 1 = ap nesting_of is ∙ nesting_of-Sub c.in-Sub.tok c.in-Sub.pos left right in
     let code = ap (expression_code c.args.depth) is ∙ code_of_sub c.args.depth c.in-Sub.tok c.in-Sub.pos left right in
-    let at_left = le-max_left (depth_of left) (depth_of right) in
-    let at_right = le-max_right (depth_of left) (depth_of right) in
+    let at_left = le-max_left (nesting_of left) (nesting_of right) in
+    let at_right = le-max_right (nesting_of left) (nesting_of right) in
     let nesting = c.requires.nesting in
     let fits = subst (λ (words : List Instr). length c.args.code.now.items + length words ≤ MOST_WORDS) code c.requires.fits in
     (omega (arith, deep, at_left, at_right, c.decreases), (operands.0, (operands.1, (omega (arith, deep, at_left, nesting), (omega (arith, deep, at_right, nesting), fits)))))

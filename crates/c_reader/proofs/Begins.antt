@@ -1,0 +1,198 @@
+-- With which symbols the parts of the tree begin.
+use Rattle.std.proofs.Common.{◌≡◌, ℕ, Bool, true, false, List, [], ◌∷◌, ◌++◌, refl, ap, subst, ◌∙◌, sym}
+use Rattle.std.proofs.lemmas.List.{append_assoc}
+use Rattle.c_tree.specs.declared.expression.UnaryMark.{UnaryMark}
+use Rattle.c_tree.specs.declared.expression.UnaryMark.TheVariants as unaries
+use Rattle.c_reader.specs.declared.symbol.Symbol.{Symbol}
+use Rattle.c_reader.specs.declared.symbol.Symbol.TheVariants as symbol
+use Rattle.c_reader.specs.Grammar.{Rule}
+use Rattle.c_reader.specs.Grammar as rule
+use Rattle.c_reader.specs.Marks.{unary_symbol, step_symbol}
+use Rattle.c_reader.specs.Nodes.{Node}
+use Rattle.c_reader.specs.Nodes as a
+use Rattle.c_reader.specs.Parts.{Part, token, node}
+use Rattle.c_reader.specs.Spelling.{Spells}
+use Rattle.c_reader.specs.Spelling as spelling
+use Rattle.c_reader.specs.Spots.{Spot}
+use Rattle.c_reader.specs.Stream.{ahead}
+use Rattle.c_reader.specs.Symbols.{same_symbol, begins_type, begins_objects, begins_expression, begins_statement}
+use Rattle.c_reader.proofs.Rules.{symbol_of_token, is-symbol}
+use Rattle.c_reader.proofs.Sequences.{from_nothing}
+use Rattle.c_reader.proofs.SymbolNumbers.{same-is, same-self}
+
+abbrev pub begins_place : Symbol → Bool
+begins_place symbol.Name = true
+begins_place symbol.Star = true
+begins_place _ = false
+
+abbrev pub begins_name : Symbol → Bool
+begins_name symbol.Name = true
+begins_name _ = false
+
+abbrev pub begins_block : Symbol → Bool
+begins_block symbol.OpenBrace = true
+begins_block _ = false
+
+abbrev pub begins_simple : Symbol → Bool
+begins_simple symbol.Name = true
+begins_simple symbol.Star = true
+begins_simple symbol.PlusPlus = true
+begins_simple symbol.MinusMinus = true
+begins_simple symbol.Overflow = true
+begins_simple _ = false
+
+-- the symbols that a part of the tree may begin with; of others than these nothing is said
+abbrev pub begins : Node → Symbol → Bool
+begins (a.objects o) s = begins_objects s
+begins (a.specifiers at is_static is_const width) s = begins_objects s
+begins (a.type_ at width) s = begins_type s
+begins (a.block b) s = begins_block s
+begins (a.stmt x) s = begins_statement s
+begins (a.simple x) s = begins_simple s
+begins (a.place p) s = begins_place s
+begins (a.named p) s = begins_name s
+begins (a.call c) s = begins_name s
+begins (a.expr e) s = begins_expression s
+begins (a.chain n e) s = begins_expression s
+begins (a.unary e) s = begins_expression s
+begins _ s = true
+
+-- those that a list of parts may begin with
+abbrev pub starts : List Part → Symbol → Bool
+starts [] s = true
+starts (token t ∷ ps) s = same_symbol s (symbol_of_token t)
+starts (node n ∷ ps) s = begins n s
+
+to : (P : Symbol → Bool) (s t : Symbol) → same_symbol s t ≡ true → P t ≡ true → P s ≡ true
+to P s t e p = subst (λ (x : Symbol). P x ≡ true) (sym (same-is s t e)) p
+
+-- ---- which are among which
+
+type_objects : (s : Symbol) → begins_type s ≡ true → begins_objects s ≡ true
+type_objects symbol.Word16 h = refl
+type_objects symbol.Short h = refl
+type_objects symbol.Word32 h = refl
+type_objects symbol.Flag h = refl
+type_objects symbol.IntWord h = refl
+type_objects symbol.Long h = refl
+type_objects _ h = cc
+
+block_statement : (s : Symbol) → begins_block s ≡ true → begins_statement s ≡ true
+block_statement symbol.OpenBrace h = refl
+block_statement _ h = cc
+
+simple_statement : (s : Symbol) → begins_simple s ≡ true → begins_statement s ≡ true
+simple_statement symbol.Name h = refl
+simple_statement symbol.Star h = refl
+simple_statement symbol.PlusPlus h = refl
+simple_statement symbol.MinusMinus h = refl
+simple_statement symbol.Overflow h = refl
+simple_statement _ h = cc
+
+place_simple : (s : Symbol) → begins_place s ≡ true → begins_simple s ≡ true
+place_simple symbol.Name h = refl
+place_simple symbol.Star h = refl
+place_simple _ h = cc
+
+name_simple : (s : Symbol) → begins_name s ≡ true → begins_simple s ≡ true
+name_simple symbol.Name h = refl
+name_simple _ h = cc
+
+name_place : (s : Symbol) → begins_name s ≡ true → begins_place s ≡ true
+name_place symbol.Name h = refl
+name_place _ h = cc
+
+name_expression : (s : Symbol) → begins_name s ≡ true → begins_expression s ≡ true
+name_expression symbol.Name h = refl
+name_expression _ h = cc
+
+place_expression : (s : Symbol) → begins_place s ≡ true → begins_expression s ≡ true
+place_expression symbol.Name h = refl
+place_expression symbol.Star h = refl
+place_expression _ h = cc
+
+unary_expression : (mark : UnaryMark) → begins_expression (unary_symbol mark) ≡ true
+unary_expression unaries.Minus = refl
+unary_expression unaries.Plus = refl
+unary_expression unaries.Not = refl
+unary_expression unaries.Invert = refl
+
+step_simple : (up : Bool) → begins_simple (step_symbol up) ≡ true
+step_simple true = refl
+step_simple false = refl
+
+-- ---- the rules
+
+rule_begins : {n : Node} {early late : List Part} (s : Symbol) → Rule n early late → starts (early ++ late) s ≡ true → begins n s ≡ true
+rule_begins s (rule.objects is) h = h
+rule_begins s rule.no_qualifier h = type_objects s h
+rule_begins s rule.static h = to begins_objects s symbol.Static h refl
+rule_begins s rule.const h = to begins_objects s symbol.Const h refl
+rule_begins s rule.static_const h = to begins_objects s symbol.Static h refl
+rule_begins s rule.const_static h = to begins_objects s symbol.Const h refl
+rule_begins s rule.word16 h = to begins_type s symbol.Word16 h refl
+rule_begins s rule.short h = to begins_type s symbol.Short h refl
+rule_begins s rule.short_int h = to begins_type s symbol.Short h refl
+rule_begins s rule.word32 h = to begins_type s symbol.Word32 h refl
+rule_begins s rule.flag h = to begins_type s symbol.Flag h refl
+rule_begins s rule.int h = to begins_type s symbol.IntWord h refl
+rule_begins s rule.long h = to begins_type s symbol.Long h refl
+rule_begins s rule.long_int h = to begins_type s symbol.Long h refl
+rule_begins s rule.block h = to begins_block s symbol.OpenBrace h refl
+rule_begins s (rule.empty is) h = to begins_statement s symbol.Semicolon h refl
+rule_begins s (rule.block_stmt is) h = block_statement s h
+rule_begins s (rule.simple_stmt is) h = simple_statement s h
+rule_begins s (rule.if_ is) h = to begins_statement s symbol.If h refl
+rule_begins s (rule.if_else is closed) h = to begins_statement s symbol.If h refl
+rule_begins s (rule.while_ is) h = to begins_statement s symbol.While h refl
+rule_begins s (rule.do_ is) h = to begins_statement s symbol.Do h refl
+rule_begins s (rule.for_ is) h = to begins_statement s symbol.For h refl
+rule_begins s (rule.break is) h = to begins_statement s symbol.Break h refl
+rule_begins s (rule.continue is) h = to begins_statement s symbol.Continue h refl
+rule_begins s (rule.return is) h = to begins_statement s symbol.Return h refl
+rule_begins s (rule.assign is) h = place_simple s h
+rule_begins s (rule.step_after is) h = name_simple s h
+rule_begins s (rule.step_before {up = up} is) h = to begins_simple s (step_symbol up) h (step_simple up)
+rule_begins s (rule.set_overflow is) h = to begins_simple s symbol.Overflow h refl
+rule_begins s (rule.simple_call is) h = name_simple s h
+rule_begins s rule.place_named h = name_place s h
+rule_begins s (rule.deref is) h = to begins_place s symbol.Star h refl
+rule_begins s (rule.plain is) h = to begins_name s symbol.Name h refl
+rule_begins s (rule.index is) h = to begins_name s symbol.Name h refl
+rule_begins s (rule.index2 is) h = to begins_name s symbol.Name h refl
+rule_begins s (rule.call is) h = to begins_name s symbol.Name h refl
+rule_begins s rule.plain_expr h = h
+rule_begins s (rule.choose is) h = h
+rule_begins s rule.operand h = h
+rule_begins s (rule.binary rank is) h = h
+rule_begins s rule.no_chain h = h
+rule_begins s (rule.unary {mark = mark} is) h = to begins_expression s (unary_symbol mark) h (unary_expression mark)
+rule_begins s (rule.cast is) h = to begins_expression s symbol.OpenParen h refl
+rule_begins s (rule.brackets is) h = to begins_expression s symbol.OpenParen h refl
+rule_begins s (rule.number is) h = to begins_expression s symbol.Int h refl
+rule_begins s (rule.read_overflow is) h = to begins_expression s symbol.Overflow h refl
+rule_begins s (rule.call_value is) h = name_expression s h
+rule_begins s (rule.read is) h = place_expression s h
+rule_begins s _ h = refl
+
+-- ---- what is spelled
+
+starts_first : (early late : List Part) (s t : Symbol) → starts early s ≡ true → (early ≡ [] → s ≡ t) → starts late t ≡ true → starts (early ++ late) s ≡ true
+starts_first [] late s t h same k = subst (λ (x : Symbol). starts late x ≡ true) (sym (same refl)) k
+starts_first (token x ∷ ps) late s t h same k = h
+starts_first (node n ∷ ps) late s t h same k = h
+
+no_tokens : {early : List Part} {c : ℕ} {u : List Spot} → Spells early c u → early ≡ [] → u ≡ []
+no_tokens {c = c} {u = u} sp e = (from_nothing (subst (λ (ps : List Part). Spells ps c u) e sp)).tokens
+
+-- what is ahead where a list of parts is spelled
+pub spells_starts : {ps : List Part} {d : ℕ} {w : List Spot} (s : List Spot) → Spells ps d w → starts ps (ahead (w ++ s)) ≡ true
+spells_starts s spelling.nothing = refl
+spells_starts s (spelling.quoted {t = t} {x = x} is more) = subst (λ (y : Symbol). same_symbol y (symbol_of_token t) ≡ true) (sym (is-symbol t x is)) (same-self (symbol_of_token t))
+spells_starts s (spelling.whole {n = n} {early = early} {late = late} {u1 = u1} {u2 = u2} {v = v} {w = w} rule before behind more tokens depth) =
+    let e : w ++ s ≡ u1 ++ (u2 ++ (v ++ s)) = ap (λ (x : List Spot). x ++ s) tokens ∙ simp append_assoc in
+    let h = spells_starts (u2 ++ (v ++ s)) before in
+    let k = spells_starts (v ++ s) behind in
+    let f : starts (early ++ late) (ahead (u1 ++ (u2 ++ (v ++ s)))) ≡ true =
+    starts_first early late (ahead (u1 ++ (u2 ++ (v ++ s)))) (ahead (u2 ++ (v ++ s))) h (λ none. ap (λ (x : List Spot). ahead (x ++ (u2 ++ (v ++ s)))) (no_tokens before none)) k in
+    rule_begins (ahead (w ++ s)) rule (subst (λ (x : List Spot). starts (early ++ late) (ahead x) ≡ true) (sym e) f)

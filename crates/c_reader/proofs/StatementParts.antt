@@ -1,0 +1,168 @@
+-- What stands in the brackets of statements is read rightly.
+use Rattle.std.proofs.Common.{◌≡◌, ◌≢◌, ℕ, suc, Bool, true, false, List, [], ◌∷◌, ◌++◌, length, Option, None, ◌⊎◌, inl, inr, refl, ap, subst, ◌∙◌, sym}
+use Rattle.std.specs.Prelude.{Result, Ok, Err, if◌then◌else◌}
+use Rattle.sat_base.specs.declared.name.At.{At}
+use Rattle.c_tree.specs.declared.expression.Expr.{Expr}
+use Rattle.c_tree.specs.declared.simple.Simple.{Simple}
+use Rattle.c_reader.specs.declared.symbol.Symbol.{Symbol}
+use Rattle.c_reader.specs.declared.symbol.Symbol.TheVariants as symbol
+use Rattle.c_reader.specs.Grammar.{Rule}
+use Rattle.c_reader.specs.Grammar as rule
+use Rattle.c_reader.specs.Nodes as a
+use Rattle.c_reader.specs.Parts.{Part, node, word, followed}
+use Rattle.c_reader.specs.ReadExpressions.{expression_at}
+use Rattle.c_reader.specs.ReadStatements.{after, closed, many, is_comma, simple_at, more_simples_at, simples_at, condition_at, simples_before_at, some_expression, expression_before_semicolon_at}
+use Rattle.c_reader.specs.Spelling.{Spells}
+use Rattle.c_reader.specs.Spots.{Spot}
+use Rattle.c_reader.specs.Stream.{ahead, rest, Fault, Parser, ◌>>=◌, both, take_at}
+use Rattle.c_reader.specs.Symbols.{same_symbol, begins_expression}
+use Rattle.c_reader.proofs.Begins.{begins_simple, spells_starts}
+use Rattle.c_reader.proofs.Many.{many-more, stops_many, many_right}
+use Rattle.c_reader.proofs.Maybes.{Absent, Present, maybe_right}
+use Rattle.c_reader.proofs.Right.{Ends, Stops, Right, always}
+use Rattle.c_reader.proofs.Rules.{token-ahead}
+use Rattle.c_reader.proofs.Sequences.{from_token, from_nothing}
+use Rattle.c_reader.proofs.SimpleMarks.{any_expression, any_simple, ends_simple, stops_simple}
+use Rattle.c_reader.proofs.Steps.{Right-both}
+use Rattle.c_reader.proofs.Stops.{stops_expression}
+use Rattle.c_reader.proofs.SymbolNumbers.{same-is}
+use Rattle.c_reader.proofs.Words.{onward, after_right, closed_right}
+
+-- two symbols differ where a test tells them apart
+pub apart_by : (P : Symbol → Bool) (s t : Symbol) → P s ≡ true → P t ≡ false → same_symbol s t ≡ false
+apart_by P s t yes_s no_t = step (same_symbol s t) refl
+  where
+    step : (b : Bool) → same_symbol s t ≡ b → b ≡ false
+    step true e = let k : P t ≡ true = subst (λ (x : Symbol). P x ≡ true) (same-is s t e) yes_s in absurd (cc (k, no_t))
+    step false e = refl
+
+-- ---- lists with commas
+
+-- what may follow a list of them: neither a comma nor what begins one
+abbrev pub ends_simples : Symbol → Bool
+ends_simples symbol.Semicolon = true
+ends_simples symbol.CloseParen = true
+ends_simples _ = false
+
+simples_end : (s : Symbol) → ends_simples s ≡ true → ends_simple s ≡ true
+simples_end symbol.Semicolon h = refl
+simples_end symbol.CloseParen h = refl
+simples_end _ h = cc
+
+no_comma : (s : Symbol) → is_comma s ≡ true → ends_simples s ≡ true → ⊥
+no_comma s h k = let e : ends_simples symbol.Comma ≡ true = subst (λ (x : Symbol). ends_simples x ≡ true) (same-is s symbol.Comma h) k in cc
+
+abbrev of_simple : Simple → List Part
+of_simple x = node (a.simple x) ∷ []
+
+abbrev of_next : Simple → List Part
+of_next x = word symbol.Comma ∷ node (a.simple x) ∷ []
+
+abbrev of_followed : List Simple → List Part
+of_followed xs = followed a.simple xs
+
+abbrev of_separated : Simple × List Simple → List Part
+of_separated z = node (a.simple z.0) ∷ followed a.simple z.1
+
+abbrev stops_separated : Simple × List Simple → Symbol → Bool
+stops_separated z s = ends_simples s
+
+abbrev separated_simples : Simple × List Simple → List Simple
+separated_simples z = z.0 ∷ z.1
+
+next_begins : (x : Simple) (c : ℕ) (v s : List Spot) → Spells (of_next x) c v → is_comma (ahead (v ++ s)) ≡ true
+next_begins x c v s sp = subst (λ (y : Symbol). is_comma y ≡ true) (sym (token-ahead s sp)) refl
+
+next_filled : (x : Simple) (c : ℕ) → Spells (of_next x) c [] → ⊥
+next_filled x c sp = let t = from_token sp in let e : t.x ∷ t.rest ≡ [] = sym t.tokens in cc
+
+simples_follow : (x : Simple) (xs : List Simple) (c : ℕ) (v s : List Spot) → Spells (of_followed xs) c v → Stops (stops_many {A = Simple} ends_simples) xs s → Stops stops_simple x (v ++ s)
+simples_follow x [] c v s sp st =
+    let e : v ++ s ≡ s = ap (λ (w : List Spot). w ++ s) (from_nothing sp).tokens in
+    subst (λ (w : List Spot). ends_simple (ahead w) ≡ true) (sym e) (simples_end (ahead s) st)
+simples_follow x (y ∷ ys) c v s sp st = subst (λ (z : Symbol). ends_simple z ≡ true) (sym (token-ahead s sp)) refl
+
+-- the list as its first part and the others
+abbrev pairs_at : ℕ → Parser (Simple × List Simple)
+pairs_at n = both (simple_at n) (λ j. more_simples_at n (suc (length j)) [] j)
+
+pairs-same : (n : ℕ) (i : List Spot) → onward separated_simples (pairs_at n i) ≡ simples_at n i
+unfolding simples_at more_simples_at
+pairs-same n i = step (simple_at n i)
+  where
+    joined : (x : Simple) (y : Result (List Simple × List Spot) Fault) → onward separated_simples (onward (λ (xs : List Simple). let z : Simple × List Simple = (x, xs) in z) y) ≡ onward (λ (xs : List Simple). (x ∷ []) ++ xs) y
+    joined x (Ok y) = refl
+    joined x (Err f) = refl
+
+    step : (y : Result (Simple × List Spot) Fault)
+        → onward separated_simples (y >>= (λ x. onward (λ (xs : List Simple). let z : Simple × List Simple = (x.0, xs) in z) (many is_comma (after symbol.Comma (simple_at n)) (suc (length x.1)) [] x.1)))
+        ≡ (y >>= (λ x. many is_comma (after symbol.Comma (simple_at n)) (suc (length x.1)) (x.0 ∷ []) x.1))
+    step (Ok x) =
+        joined x.0 (many is_comma (after symbol.Comma (simple_at n)) (suc (length x.1)) [] x.1) ∙ sym (many-more is_comma (after symbol.Comma (simple_at n)) (suc (length x.1)) (x.0 ∷ []) x.1)
+    step (Err f) = refl
+
+simples_cases : (xs : List Simple) (early late : List Part) → Rule (a.simples xs) early late → Absent [] xs early late ⊎ Present separated_simples of_separated xs early late
+simples_cases xs early late rule.no_simples = inl (refl, refl, refl)
+simples_cases xs early late (rule.simples {x = y} {xs = ys}) = inr ((y, ys), refl, refl, refl)
+
+module _ (n : ℕ) (simple_right : (i : List Spot) → Ends i → Right (λ (x : Simple). node (a.simple x) ∷ []) n stops_simple [] i (simple_at n i)) where
+  more_right : (i : List Spot) → Ends i → Right of_followed n (stops_many ends_simples) [] i (more_simples_at n (suc (length i)) [] i)
+  unfolding more_simples_at
+  more_right i ends =
+      let comma : symbol.Comma ≢ symbol.End = λ e. cc in
+      many_right of_next of_followed refl (λ x xs. refl) n stops_simple is_comma ends_simples no_comma next_begins next_filled simples_follow
+      (after symbol.Comma (simple_at n)) (after_right of_simple n stops_simple symbol.Comma comma any_simple (simple_at n) simple_right) i ends
+
+  pairs_right : (i : List Spot) → Ends i → Right of_separated n stops_separated [] i (pairs_at n i)
+  pairs_right i ends =
+      Right-both of_simple of_followed n stops_simple (stops_many ends_simples) simples_follow [] (simple_at n) (λ j. more_simples_at n (suc (length j)) [] j) [] i (simple_right i ends) more_right
+
+  -- none or more before a mark
+  pub simples_before_right : (mark : Symbol) → mark ≢ symbol.End → ends_simples mark ≡ true → begins_simple mark ≡ false → (i : List Spot) → Ends i
+      → Right (λ (xs : List Simple). node (a.simples xs) ∷ word mark ∷ []) n always [] i (simples_before_at mark n i)
+  unfolding simples_before_at
+  simples_before_right mark more may other i ends =
+      let r = maybe_right a.simples of_separated [] separated_simples n stops_separated mark more (any_simple, []) rule.no_simples (λ z. rule.simples) simples_cases
+      (λ z c v s sp. apart_by begins_simple (ahead (v ++ s)) mark (spells_starts s sp) other) (λ z. may) (pairs_at n) pairs_right i ends in
+      subst (λ (y : Result (List Simple × List Spot) Fault). Right (λ (xs : List Simple). node (a.simples xs) ∷ word mark ∷ []) n always [] i (if same_symbol (ahead i) mark then Ok ([], rest i) else y)) (same i) r
+    where
+      closing : (y : Result ((Simple × List Simple) × List Spot) Fault)
+          → onward separated_simples (y >>= (λ x. take_at mark x.1 >>= (λ z. Ok (x.0, z.1)))) ≡ (onward separated_simples y >>= (λ x. take_at mark x.1 >>= (λ z. Ok (x.0, z.1))))
+      closing (Err f) = refl
+      closing (Ok x) = last (take_at mark x.1)
+        where
+          last : (y : Result (At × List Spot) Fault) → onward separated_simples (y >>= (λ z. Ok (x.0, z.1))) ≡ (y >>= (λ z. Ok (separated_simples x.0, z.1)))
+          last (Ok z) = refl
+          last (Err f) = refl
+
+      same : (i : List Spot) → onward separated_simples (closed (pairs_at n) mark i) ≡ closed (simples_at n) mark i
+      same i = closing (pairs_at n i) ∙ ap (λ (y : Result (List Simple × List Spot) Fault). y >>= (λ x. take_at mark x.1 >>= (λ z. Ok (x.0, z.1)))) (pairs-same n i)
+
+-- ---- expressions
+
+abbrev of_expression : Expr → List Part
+of_expression e = node (a.expr e) ∷ []
+
+expression_cases : (e : Option Expr) (early late : List Part) → Rule (a.maybe_expr e) early late → Absent None e early late ⊎ Present some_expression of_expression e early late
+expression_cases e early late rule.no_expr = inl (refl, refl, refl)
+expression_cases e early late (rule.an_expr {e = x}) = inr (x, refl, refl, refl)
+
+module _ (n : ℕ) (expression_right : (i : List Spot) → Ends i → Right (λ (e : Expr). node (a.expr e) ∷ []) n stops_expression [] i (expression_at n i)) where
+  -- none or one before a `;`
+  pub expression_before_right : (i : List Spot) → Ends i
+      → Right (λ (e : Option Expr). node (a.maybe_expr e) ∷ word symbol.Semicolon ∷ []) n always [] i (expression_before_semicolon_at n i)
+  unfolding expression_before_semicolon_at
+  expression_before_right i ends =
+      let more : symbol.Semicolon ≢ symbol.End = λ e. cc in
+      maybe_right a.maybe_expr of_expression None some_expression n stops_expression symbol.Semicolon more any_expression rule.no_expr (λ e. rule.an_expr) expression_cases
+      (λ e c v s sp. apart_by begins_expression (ahead (v ++ s)) symbol.Semicolon (spells_starts s sp) refl) (λ e. refl) (expression_at n) expression_right i ends
+
+  -- one in brackets
+  pub condition_right : (i : List Spot) → Ends i
+      → Right (λ (e : Expr). word symbol.OpenParen ∷ node (a.expr e) ∷ word symbol.CloseParen ∷ []) n always [] i (condition_at n i)
+  unfolding condition_at
+  condition_right i ends =
+      let first : symbol.OpenParen ≢ symbol.End = λ e. cc in
+      let last : symbol.CloseParen ≢ symbol.End = λ e. cc in
+      after_right (λ (e : Expr). node (a.expr e) ∷ word symbol.CloseParen ∷ []) n always symbol.OpenParen first any_expression (closed (expression_at n) symbol.CloseParen)
+      (λ j ends_j. closed_right of_expression n stops_expression symbol.CloseParen last any_expression (expression_at n) (λ e. refl) [] j (expression_right j ends_j)) i ends

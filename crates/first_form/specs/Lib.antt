@@ -1,0 +1,4 @@
+pub mod Finding
+pub mod Form
+pub mod Laws
+pub mod Meaning
