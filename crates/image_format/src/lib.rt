@@ -6,6 +6,3 @@ pub mod spelling;
 
 pub use image::{Image, SiteEntry};
 pub use spelling::write_bytes;
-
-#[cfg(test)]
-mod tests;

@@ -24,6 +24,3 @@ pub use operands::are_operands;
 pub use operator::{OPERATORS, Op};
 pub use site::{Form, Guard, SiteKind};
 pub use table::{arity, gives, name, of_name, takes};
-
-#[cfg(test)]
-mod tests;

@@ -16,8 +16,3 @@ mod step;
 pub use machine::Machine;
 pub use pause::Pause;
 pub use sat_base::MachineFault;
-
-#[cfg(test)]
-mod operation_tests;
-#[cfg(test)]
-mod tests;

@@ -11,6 +11,3 @@ mod row;
 pub use decoding::decode;
 pub use encoding::{encode, fits};
 pub use instruction::Instr;
-
-#[cfg(test)]
-mod tests;

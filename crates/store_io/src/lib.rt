@@ -12,7 +12,7 @@ pub mod mem_store;
 pub mod sink;
 pub mod std_sink;
 pub mod store;
-mod stream;
+pub mod stream;
 
 pub use calm_sink::CalmSink;
 pub use calm_store::CalmStore;

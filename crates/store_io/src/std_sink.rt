@@ -22,6 +22,13 @@ impl<R> StdSink<R> {
         StdSink { rt, faults: 0 }
     }
 
+    /// How often the system failed.
+    pub fn faults(&self) -> u64
+        ensures { result ≡ self.now.faults }
+    {
+        self.faults
+    }
+
     fn count_fault(&mut self)
         ensures count { self.new.faults ≡ min (self.old.faults + 1) (2 ^ 64 - 1) }
         ensures later { self.old.faults ≤ self.new.faults }
@@ -50,18 +57,5 @@ impl<R: Print> Sink for StdSink<R> {
                 Err(PutFail::Failed)
             }
         }
-    }
-}
-
-#[cfg(test)]
-mod tests {
-    use super::*;
-
-    #[test]
-    fn puts_to_standard_output(rt: HostRuntime) {
-        let mut sink = StdSink::new(&rt);
-        assert!(rt; sink.put(rt.alloc(), b"a line from a test\n").is_ok());
-        assert!(rt; sink.put(rt.alloc(), b"").is_ok());
-        assert_eq!(rt; sink.faults, 0);
     }
 }

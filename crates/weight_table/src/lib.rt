@@ -8,6 +8,3 @@ mod weights;
 pub use counted::Counted;
 pub use table::{Table, table_of};
 pub use weights::weight;
-
-#[cfg(test)]
-mod tests;

@@ -1,7 +1,9 @@
-use super::*;
+// Whole runs of small programs.
+
 use MachineFault::{Align, Break, Call, Fetch, Input, Jump, Load, Store, Word};
 use image_format::Image;
-use sat_base::Memory;
+use rv_emulator::{Machine, Pause};
+use sat_base::{MachineFault, Memory};
 use sqlite_items::Items;
 use std::test::Fail;
 

@@ -1,6 +1,6 @@
 // Images, byte by byte.
 
-use super::*;
+use image_format::{Image, SiteEntry, write_bytes};
 use sqlite_items::Items;
 use std::test::Fail;
 

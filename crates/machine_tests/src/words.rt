@@ -1,4 +1,6 @@
-use super::*;
+// The words of instructions.
+
+use rv_encode::{Instr, decode, encode, fits};
 use std::alloc::AllocError;
 
 // Words that LLVM's assembler gives, and their instructions as `Debug` shows them: some with fields of their own,

@@ -1,7 +1,7 @@
 // The weights against the table.
 
-use super::*;
 use operator_meaning::{OPERATORS, Op};
+use weight_table::{Counted, Table, table_of, weight};
 
 /// The first column of the operators' table, in the order of the operators.
 const WEIGHTS: [u32; 29] = [

@@ -1,5 +1,7 @@
-use super::*;
+// What the instructions compute.
+
 use image_format::Image;
+use rv_emulator::{Machine, Pause};
 use sat_base::Memory;
 use sqlite_items::Items;
 use std::test::Fail;

@@ -1,6 +1,8 @@
 // The operators against rows that were worked out by hand from their table.
 
-use super::*;
+use operator_meaning::{
+    Invalid, OPERATORS, Op, are_operands, arity, clips, gives, name, of_name, raises, takes, value,
+};
 use sat_base::Width;
 
 const LOW: i32 = -32_768;
