@@ -6,6 +6,7 @@ mod clipped;
 mod laws;
 mod meaning;
 mod norm;
+pub mod object;
 mod operands;
 pub mod operator;
 mod outcome;
@@ -20,6 +21,7 @@ pub use laws::{
     counts_turn, names_are_distinct, norms_reach, shifts_round, signs_differ, values_fit,
 };
 pub use meaning::{Invalid, clips, raises, value};
+pub use object::{Object, Site, Storage};
 pub use operands::are_operands;
 pub use operator::{OPERATORS, Op};
 pub use site::{Form, Guard, SiteKind};

@@ -1,3 +1,4 @@
 pub mod Clip
+pub mod Faults
 pub mod Observation
 pub mod Position

@@ -3,6 +3,7 @@
 #![tactic(auto)]
 
 pub mod clip;
+pub mod fault;
 pub mod limits;
 pub mod machine_fault;
 pub mod name;
@@ -11,6 +12,7 @@ pub mod refusal;
 pub mod width;
 
 pub use clip::{clip16, clip32, low16};
+pub use fault::{Fault, FaultKind, fault_text, lesser};
 pub use machine_fault::MachineFault;
 pub use name::{At, Name, Named};
 pub use position::Pos;
