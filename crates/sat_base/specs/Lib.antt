@@ -1,4 +1,5 @@
 pub mod Clip
 pub mod Faults
+pub mod Limits
 pub mod Observation
 pub mod Position

@@ -4,6 +4,7 @@
 
 pub mod clip;
 pub mod fault;
+pub mod laws;
 pub mod limits;
 pub mod machine_fault;
 pub mod name;
