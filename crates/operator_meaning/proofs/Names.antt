@@ -1,40 +1,11 @@
 -- Each operator stands in the list of all of them, and no two have one name.
 use Rattle.std.proofs.Common.{◌≡◌, ℕ, ◌<◌, get_or, List, [], ◌∷◌, Option, Some, None, inl, inr, if◌then◌else◌, bytes_eq, codes, refl, sym, ap, ◌∙◌, lit<}
+use Rattle.std.specs.Prelude.{slice_get}
+use Rattle.operator_meaning.specs.Order.{place_of}
 use Rattle.operator_meaning.specs.Table.{row_of, IsNameOf}
 use Rattle.operator_meaning.specs.declared.operator.Op.{Op}
 use Rattle.operator_meaning.specs.declared.operator.Op.TheVariants.{Add, Sub, AbsS, Shl, Shr, ExtractH, ExtractL, Mult, LMult, Negate, Round, LMac, LMsu, MacR, MsuR, LAdd, LSub, LNegate, MultR, LShl, LShr, ShrR, LShrR, LAbs, LDepositH, LDepositL, NormS, NormL, DivS}
 use Rattle.operator_meaning.specs.declared.operator.TheConstants.{OPERATORS}
-
-abbrev pub place_of : Op → ℕ
-place_of Add = 0
-place_of Sub = 1
-place_of AbsS = 2
-place_of Shl = 3
-place_of Shr = 4
-place_of ExtractH = 5
-place_of ExtractL = 6
-place_of Mult = 7
-place_of LMult = 8
-place_of Negate = 9
-place_of Round = 10
-place_of LMac = 11
-place_of LMsu = 12
-place_of MacR = 13
-place_of MsuR = 14
-place_of LAdd = 15
-place_of LSub = 16
-place_of LNegate = 17
-place_of MultR = 18
-place_of LShl = 19
-place_of LShr = 20
-place_of ShrR = 21
-place_of LShrR = 22
-place_of LAbs = 23
-place_of LDepositH = 24
-place_of LDepositL = 25
-place_of NormS = 26
-place_of NormL = 27
-place_of DivS = 28
 
 pub place_within : (op : Op) → place_of op < 29
 place_within Add = lit< tt
@@ -97,6 +68,38 @@ at_place LDepositL = refl
 at_place NormS = refl
 at_place NormL = refl
 at_place DivS = refl
+
+-- the list of all operators has each at its place
+pub stands_at_place : (op : Op) → slice_get OPERATORS (place_of op) ≡ Some op
+stands_at_place Add = refl
+stands_at_place Sub = refl
+stands_at_place AbsS = refl
+stands_at_place Shl = refl
+stands_at_place Shr = refl
+stands_at_place ExtractH = refl
+stands_at_place ExtractL = refl
+stands_at_place Mult = refl
+stands_at_place LMult = refl
+stands_at_place Negate = refl
+stands_at_place Round = refl
+stands_at_place LMac = refl
+stands_at_place LMsu = refl
+stands_at_place MacR = refl
+stands_at_place MsuR = refl
+stands_at_place LAdd = refl
+stands_at_place LSub = refl
+stands_at_place LNegate = refl
+stands_at_place MultR = refl
+stands_at_place LShl = refl
+stands_at_place LShr = refl
+stands_at_place ShrR = refl
+stands_at_place LShrR = refl
+stands_at_place LAbs = refl
+stands_at_place LDepositH = refl
+stands_at_place LDepositL = refl
+stands_at_place NormS = refl
+stands_at_place NormL = refl
+stands_at_place DivS = refl
 
 -- ---- at most one operator has a name
 

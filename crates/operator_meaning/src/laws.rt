@@ -1,6 +1,7 @@
 // What follows from the table and the lines of the operators alone.
 
 ghost use Rattle.operator_meaning.specs.Laws.{NamesAreDistinct, ValuesFit, CountsTurn, ShiftsRound, SignsDiffer, NormsReach};
+ghost use Rattle.operator_meaning.specs.Order.{OrderIsOne};
 
 /// A text is the name of at most one operator. So `of_name` inverts `name`.
 pub fn names_are_distinct()
@@ -30,4 +31,9 @@ pub fn signs_differ()
 /// `norm_s` and `norm_l` give the shifts that bring a number other than 0 into its interval.
 pub fn norms_reach()
     ensures { NormsReach }
+{}
+
+/// The list of all operators has each of them at its place.
+pub fn order_is_one()
+    ensures { OrderIsOne }
 {}

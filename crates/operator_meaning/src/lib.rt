@@ -9,6 +9,7 @@ mod norm;
 pub mod object;
 mod operands;
 pub mod operator;
+mod order;
 mod outcome;
 mod product;
 mod quotient;
@@ -18,11 +19,13 @@ mod sum;
 mod table;
 
 pub use laws::{
-    counts_turn, names_are_distinct, norms_reach, shifts_round, signs_differ, values_fit,
+    counts_turn, names_are_distinct, norms_reach, order_is_one, shifts_round, signs_differ,
+    values_fit,
 };
 pub use meaning::{Invalid, clips, raises, value};
 pub use object::{Object, Site, Storage};
 pub use operands::are_operands;
 pub use operator::{OPERATORS, Op};
+pub use order::place;
 pub use site::{Form, Guard, SiteKind};
 pub use table::{arity, gives, name, of_name, takes};

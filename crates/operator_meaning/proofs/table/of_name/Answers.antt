@@ -1,6 +1,7 @@
 use Rattle.std.proofs.Common.{◌≡◌, true, false, ◌<◌, inl, inr, sym, ap, ◌∙◌, arith}
 use Rattle.operator_meaning.specs.Table.{row_of}
-use Rattle.operator_meaning.proofs.Names.{place_of, place_within, at_place}
+use Rattle.operator_meaning.specs.Order.{place_of}
+use Rattle.operator_meaning.proofs.Names.{place_within, at_place}
 use Rattle.operator_meaning.proofs.table.of_name.Goals as goal
 
 pub returns : goal.returns
