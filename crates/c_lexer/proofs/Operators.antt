@@ -12,7 +12,8 @@ use Rattle.operator_meaning.specs.Table.{row_of, IsNameOf, IsNoName}
 use Rattle.operator_meaning.specs.declared.operator.Op.{Op}
 use Rattle.operator_meaning.specs.declared.operator.Op.TheVariants.{Add, Round}
 use Rattle.operator_meaning.specs.declared.operator.TheConstants.{OPERATORS}
-use Rattle.operator_meaning.proofs.Names.{place_of, place_within, at_place}
+use Rattle.operator_meaning.specs.Order.{place_of}
+use Rattle.operator_meaning.proofs.Names.{place_within, at_place}
 use Rattle.c_lexer.specs.CuttingLaws.{OperatorsAreNamed}
 use Rattle.c_lexer.specs.Names.{is_basic}
 

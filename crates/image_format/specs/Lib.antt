@@ -1,2 +1,5 @@
+pub mod Entries
 pub mod ImageBytes
 pub mod Readable
+pub mod Runs
+pub mod RunsAlike

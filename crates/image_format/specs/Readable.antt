@@ -1,5 +1,6 @@
 -- Which images the bytes of a file give back: the rules of version 1.
 use Rattle.std.specs.Prelude.{◌≡◌, ◌≢◌, ◌≤◌, ◌<◌, ◌+◌, ◌^◌, ◌%◌, ℕ, All, length}
+use Rattle.rv_encode.specs.Words.{IsRegister}
 use Rattle.image_format.specs.declared.image.Image.{Image}
 use Rattle.image_format.specs.declared.image.SiteEntry.{SiteEntry}
 
@@ -22,10 +23,6 @@ greatest_form = 2
 
 abbrev pub bound_kind : ℕ
 bound_kind = 33
-
--- the number of a register
-abbrev pub IsRegister : ℕ → Type 0
-IsRegister number = number < 32
 
 -- an operand register that is not among the entry's operands, counted from 0, is 0
 abbrev pub IsUnusedZero : SiteEntry → (place register : ℕ) → Type 0

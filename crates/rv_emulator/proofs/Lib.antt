@@ -1,3 +1,1 @@
-pub mod Alike
 pub mod Moments
-pub mod Stores

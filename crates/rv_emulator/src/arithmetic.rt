@@ -1,7 +1,7 @@
 // What the instructions compute of two numbers (RISC-V unprivileged specification).
 
 ghost use Rattle.std.specs.Prelude.{◌≡◌, ◌<◌, ◌*◌};
-ghost use Rattle.rv_emulator.specs.Arithmetic.{is_below, flag_of, amount_of, shifted_left, shifted_right, shifted_right_signed, upper_product, upper_product_mixed, upper_product_unsigned, quotient, remainder, quotient_unsigned, remainder_unsigned};
+ghost use Rattle.rv_encode.specs.Arithmetic.{is_below, flag_of, shift_amount, shifted_left, shifted_right, shifted_right_signed, upper_product, upper_product_mixed, upper_product_unsigned, quotient, remainder, quotient_unsigned, remainder_unsigned};
 
 /// 1 where it holds, else 0.
 pub fn flag(holds: bool) -> i32
@@ -18,8 +18,8 @@ pub fn is_below(a: i32, b: i32) -> bool
 }
 
 /// The low 5 bits.
-pub fn amount_of(b: i32) -> u32
-    ensures value { result ≡ amount_of b }
+pub fn shift_amount(b: i32) -> u32
+    ensures value { result ≡ shift_amount b }
     ensures fits { result < 32 }
 {
     b.cast_unsigned() % 32

@@ -1,18 +1,19 @@
 // The environment calls.
 
-ghost use Rattle.std.specs.Prelude.{◌≡◌};
+ghost use Rattle.std.specs.Prelude.{◌≡◌, []};
 ghost use Rattle.sat_base.specs.Clip.{low16};
-ghost use Rattle.rv_emulator.specs.Machine.{register, count_of, calls};
-ghost use Rattle.rv_emulator.specs.Steps.{as_effect};
+ghost use Rattle.rv_encode.specs.State.{register, count_of};
+ghost use Rattle.rv_encode.specs.Effects.{calls};
+ghost use Rattle.rv_emulator.specs.Steps.{state_of, HasEffect};
 
 use crate::effects::Step;
-use crate::state::{Ending, MachineState};
+use crate::state::{Ending, Hart};
 use sat_base::{MachineFault, low16};
 
-impl MachineState {
+impl Hart {
     /// An environment call, by the number in x17.
     pub fn call(&mut self) -> Step
-        ensures { as_effect result self.new ≡ calls self.old (register self.old 17) }
+        ensures { HasEffect result self.old self.new (λ s. calls s (register s 17)) }
     {
         match self.read(17) {
             1 => {
@@ -41,13 +42,13 @@ impl MachineState {
 
     // The sample that a call writes.
     fn sample(&self) -> i16
-        ensures { result ≡ low16 (register self.now 10) }
+        ensures { result ≡ low16 (register (state_of self.now []) 10) }
     {
         low16(self.read(10)) as i16
     }
 
     fn count(&self) -> u64
-        ensures { result ≡ count_of self.now }
+        ensures { result ≡ count_of (state_of self.now []) }
     {
         let upper = u64::from(self.read(25).cast_unsigned());
         let lower = u64::from(self.read(24).cast_unsigned());

@@ -1,11 +1,12 @@
 // What the instructions do to the state.
 
-ghost use Rattle.std.specs.Prelude.{◌≡◌, ◌-◌, ◌%◌, if◌then◌else◌};
+ghost use Rattle.std.specs.Prelude.{◌≡◌, [], ◌-◌, ◌%◌, if◌then◌else◌};
 ghost use Rattle.rv_encode.specs.Words.{IsRegister};
-ghost use Rattle.rv_emulator.specs.Machine.{register, registers_with, sets, jumps, jumps_to, linked, goes_on, faults, address_of, loads, loads_half, loads_byte, stores, stores_half, stores_byte};
-ghost use Rattle.rv_emulator.specs.Steps.{as_effect};
+ghost use Rattle.rv_encode.specs.State.{register, registers_with, address_of};
+ghost use Rattle.rv_encode.specs.Effects.{sets, jumps, jumps_to, linked, goes_on, faults, loads, loads_half, loads_byte, stores, stores_half, stores_byte};
+ghost use Rattle.rv_emulator.specs.Steps.{state_of, HasEffect};
 
-use crate::state::{Ending, MachineState};
+use crate::state::{Ending, Hart};
 use sat_base::MachineFault;
 
 /// What one instruction did; the state that it left stands beside it.
@@ -16,10 +17,10 @@ pub enum Step {
     Ends(Ending),
 }
 
-impl MachineState {
+impl Hart {
     pub fn read(&self, number: u8) -> i32
         requires { IsRegister number }
-        ensures { result ≡ register self.now number }
+        ensures { result ≡ register (state_of self.now []) number }
     {
         self.registers[usize::from(number)]
     }
@@ -35,7 +36,7 @@ impl MachineState {
 
     pub fn set(&mut self, rd: u8, value: i32) -> Step
         requires { IsRegister rd }
-        ensures { as_effect result self.new ≡ sets self.old rd value }
+        ensures { HasEffect result self.old self.new (λ s. sets s rd value) }
     {
         self.write(rd, value);
         self.pc = self.pc.wrapping_add(4);
@@ -44,14 +45,14 @@ impl MachineState {
 
     /// The next instruction follows, and nothing else changes.
     pub fn proceed(&mut self) -> Step
-        ensures { as_effect result self.new ≡ goes_on self.old }
+        ensures { HasEffect result self.old self.new goes_on }
     {
         self.pc = self.pc.wrapping_add(4);
         Step::Goes
     }
 
     pub fn branch(&mut self, taken: bool, imm: i32) -> Step
-        ensures { as_effect result self.new ≡ (if taken then jumps self.old self.old.registers imm else goes_on self.old) }
+        ensures { HasEffect result self.old self.new (λ s. if taken then jumps s s.registers imm else goes_on s) }
     {
         if !taken {
             self.pc = self.pc.wrapping_add(4);
@@ -67,7 +68,7 @@ impl MachineState {
 
     pub fn link(&mut self, rd: u8, imm: i32) -> Step
         requires { IsRegister rd }
-        ensures { as_effect result self.new ≡ jumps self.old (linked self.old rd) imm }
+        ensures { HasEffect result self.old self.new (λ s. jumps s (linked s rd) imm) }
     {
         let target = self.pc.wrapping_add_signed(imm);
         if target % 4 != 0 {
@@ -83,7 +84,7 @@ impl MachineState {
     pub fn jump_to_register(&mut self, rd: u8, rs1: u8, imm: i32) -> Step
         requires rd { IsRegister rd }
         requires rs1 { IsRegister rs1 }
-        ensures { let address = address_of self.old rs1 imm in as_effect result self.new ≡ jumps_to self.old (linked self.old rd) (address - address % 2) }
+        ensures { HasEffect result self.old self.new (λ s. let address = address_of s rs1 imm in jumps_to s (linked s rd) (address - address % 2)) }
     {
         let address = self.address(rs1, imm);
         let target = address - address % 2;
@@ -99,14 +100,14 @@ impl MachineState {
     /// The address of a register and an immediate.
     pub fn address(&self, rs1: u8, imm: i32) -> u32
         requires { IsRegister rs1 }
-        ensures { result ≡ address_of self.now rs1 imm }
+        ensures { result ≡ address_of (state_of self.now []) rs1 imm }
     {
         self.read(rs1).cast_unsigned().wrapping_add_signed(imm)
     }
 
     pub fn load(&mut self, rd: u8, address: u32) -> Step
         requires { IsRegister rd }
-        ensures { as_effect result self.new ≡ loads self.old rd address }
+        ensures { HasEffect result self.old self.new (λ s. loads s rd address) }
     {
         if address % 4 != 0 {
             return self.fault(MachineFault::Align);
@@ -120,7 +121,7 @@ impl MachineState {
 
     pub fn load_half(&mut self, rd: u8, address: u32, signed: bool) -> Step
         requires { IsRegister rd }
-        ensures { as_effect result self.new ≡ loads_half self.old rd address signed }
+        ensures { HasEffect result self.old self.new (λ s. loads_half s rd address signed) }
     {
         if address % 2 != 0 {
             return self.fault(MachineFault::Align);
@@ -139,7 +140,7 @@ impl MachineState {
 
     pub fn load_byte(&mut self, rd: u8, address: u32, signed: bool) -> Step
         requires { IsRegister rd }
-        ensures { as_effect result self.new ≡ loads_byte self.old rd address signed }
+        ensures { HasEffect result self.old self.new (λ s. loads_byte s rd address signed) }
     {
         if !self.memory.has(address, 1) {
             return self.fault(MachineFault::Load);
@@ -154,7 +155,7 @@ impl MachineState {
     }
 
     pub fn store(&mut self, address: u32, value: i32) -> Step
-        ensures { as_effect result self.new ≡ stores self.old address value }
+        ensures { HasEffect result self.old self.new (λ s. stores s address value) }
     {
         if address % 4 != 0 {
             return self.fault(MachineFault::Align);
@@ -169,7 +170,7 @@ impl MachineState {
 
     /// The low 16 bits of a value.
     pub fn store_half(&mut self, address: u32, value: i32) -> Step
-        ensures { as_effect result self.new ≡ stores_half self.old address value }
+        ensures { HasEffect result self.old self.new (λ s. stores_half s address value) }
     {
         if address % 2 != 0 {
             return self.fault(MachineFault::Align);
@@ -184,7 +185,7 @@ impl MachineState {
 
     /// The low 8 bits of a value.
     pub fn store_byte(&mut self, address: u32, value: i32) -> Step
-        ensures { as_effect result self.new ≡ stores_byte self.old address value }
+        ensures { HasEffect result self.old self.new (λ s. stores_byte s address value) }
     {
         if !self.memory.has(address, 1) {
             return self.fault(MachineFault::Store);
@@ -195,7 +196,7 @@ impl MachineState {
     }
 
     pub fn fault(&self, kind: MachineFault) -> Step
-        ensures { as_effect result self.now ≡ faults self.now kind }
+        ensures { HasEffect result self.now self.now (λ s. faults s kind) }
     {
         Step::Ends(Ending::Faulted { pc: self.pc, kind })
     }

@@ -5,7 +5,6 @@
 mod arithmetic;
 mod calls;
 mod effects;
-pub mod laws;
 pub mod machine;
 pub mod memory;
 pub mod pause;

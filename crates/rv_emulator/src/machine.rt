@@ -1,13 +1,13 @@
 // The machine, which runs an image.
 
 ghost use Rattle.std.specs.Prelude.{◌≡◌, ◌-◌, ◌≤◌, ◌<◌, List, IfOk};
-ghost use Rattle.rv_emulator.specs.Pauses.{IsRun, loaded};
+ghost use Rattle.rv_emulator.specs.Pauses.{IsRun, loaded_with};
 
 use crate::effects::Step;
 use crate::memory::DataMemory;
 use crate::pause::Pause;
 use crate::samples::Samples;
-use crate::state::{Ending, MachineState};
+use crate::state::{Ending, Hart};
 use crate::step::{CODE_START, carry_out};
 use image_format::Image;
 use sat_base::Memory;
@@ -19,27 +19,27 @@ use std::marker::Model;
 #[derive(Debug, Drop)]
 pub struct Machine {
     code: Items<u32>,
-    state: MachineState,
+    hart: Hart,
     ending: Option<Ending>,
 }
 
 impl Model for Machine {
-    ghost use Rattle.rv_emulator.specs.Pauses.{Emulation, situation_of};
+    ghost use Rattle.rv_emulator.specs.Pauses.{Emulation, moment_with};
 
     ghost Value = { Emulation };
 
-    ghost view = { λ m. record { code = m.code; situation = situation_of m.state m.ending } };
+    ghost view = { λ m. record { code = m.code; moment = moment_with m.hart m.ending } };
 }
 
 impl Machine {
     /// A machine before its first instruction: all registers are 0, the pc is at the first word of the code,
     /// and the data memory has the image's first content.
     pub fn load(alloc: Global, image: &Image, input: &[i16]) -> Result<Machine, Memory>
-        ensures { IfOk result (λ machine. machine ≡ loaded image.now input.now) }
+        ensures { IfOk result (λ machine. machine ≡ loaded_with image.now input.now) }
     {
         Ok(Machine {
             code: Items::from_slice(alloc, image.code.as_slice())?,
-            state: MachineState {
+            hart: Hart {
                 registers: [0; 32],
                 pc: CODE_START,
                 memory: DataMemory::from_slice(alloc, image.memory.as_slice())?,
@@ -60,7 +60,7 @@ impl Machine {
         }
         while *left > 0 {
             *left -= 1;
-            match carry_out(self.code.as_slice(), &mut self.state) {
+            match carry_out(self.code.as_slice(), &mut self.hart) {
                 Step::Goes => {}
                 Step::Writes(sample) => return Pause::Wrote(sample),
                 Step::Ends(ending) => {

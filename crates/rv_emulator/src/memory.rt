@@ -1,7 +1,7 @@
 // The data memory.
 
 ghost use Rattle.std.specs.Prelude.{◌≡◌, ◌+◌, ◌<◌, IfOk, IsTrue};
-ghost use Rattle.rv_emulator.specs.Machine.{is_inside, word_at, with_word, half_at, with_half, byte_at, with_byte};
+ghost use Rattle.rv_encode.specs.State.{is_inside, word_at, with_word, half_at, with_half, byte_at, with_byte};
 
 use std::alloc::{AllocError, Global};
 use std::marker::Model;

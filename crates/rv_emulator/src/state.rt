@@ -1,12 +1,13 @@
-// The state of the machine.
+// The registers and the memory of the machine.
 
 use crate::memory::DataMemory;
 use crate::samples::Samples;
 use sat_base::MachineFault;
 
-/// The registers x0 to x31, the program counter, the data memory, and the samples that are left.
+/// The registers x0 to x31, the program counter, the data memory, and the samples that are left. What was written
+/// is handed on and not kept.
 #[derive(Debug, Drop)]
-pub struct MachineState {
+pub struct Hart {
     pub registers: [i32; 32],
     pub pc: u32,
     pub memory: DataMemory,

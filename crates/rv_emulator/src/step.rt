@@ -2,16 +2,17 @@
 
 ghost use Rattle.std.specs.Prelude.{◌≡◌, if◌then◌else◌};
 ghost use Rattle.rv_encode.specs.Words.{Fits};
-ghost use Rattle.rv_emulator.specs.Machine.{fetched, stepped, effect_of};
-ghost use Rattle.rv_emulator.specs.Steps.{as_effect};
+ghost use Rattle.rv_encode.specs.Effects.{effect_of};
+ghost use Rattle.rv_encode.specs.Runs.{fetched, stepped};
+ghost use Rattle.rv_emulator.specs.Steps.{HasEffect};
 
 use crate::arithmetic::{
-    amount_of, flag, is_below, quotient, quotient_unsigned, remainder, remainder_unsigned,
+    flag, is_below, quotient, quotient_unsigned, remainder, remainder_unsigned, shift_amount,
     shifted_left, shifted_right, shifted_right_signed, upper_product, upper_product_mixed,
     upper_product_unsigned,
 };
 use crate::effects::Step;
-use crate::state::MachineState;
+use crate::state::Hart;
 use rv_encode::{Instr, decode};
 use sat_base::MachineFault;
 
@@ -19,8 +20,8 @@ use sat_base::MachineFault;
 pub const CODE_START: u32 = 0x0001_0000;
 
 /// Carries out the instruction at the pc.
-pub fn carry_out(code: &[u32], state: &mut MachineState) -> Step
-    ensures { as_effect result state.new ≡ stepped code.now state.old }
+pub fn carry_out(code: &[u32], state: &mut Hart) -> Step
+    ensures { HasEffect result state.old state.new (stepped code.now) }
 {
     let Some(word) = fetch(code, state.pc) else {
         return state.fault(MachineFault::Fetch);
@@ -38,9 +39,9 @@ fn fetch(code: &[u32], pc: u32) -> Option<u32>
     code.get(offset as usize / 4).copied()
 }
 
-fn execute(instr: Instr, state: &mut MachineState) -> Step
+fn execute(instr: Instr, state: &mut Hart) -> Step
     requires { Fits instr }
-    ensures { as_effect result state.new ≡ effect_of instr state.old }
+    ensures { HasEffect result state.old state.new (effect_of instr) }
 {
     match instr {
         Instr::Lui { rd, imm } => state.set(rd, (imm << 12).cast_signed()),
@@ -79,7 +80,7 @@ fn execute(instr: Instr, state: &mut MachineState) -> Step
         Instr::Add { rd, rs1, rs2 } => state.set(rd, state.read(rs1).wrapping_add(state.read(rs2))),
         Instr::Sll { rd, rs1, rs2 } => state.set(
             rd,
-            shifted_left(state.read(rs1), amount_of(state.read(rs2))),
+            shifted_left(state.read(rs1), shift_amount(state.read(rs2))),
         ),
         Instr::Slt { rd, rs1, rs2 } => state.set(rd, flag(state.read(rs1) < state.read(rs2))),
         Instr::Sltu { rd, rs1, rs2 } => state.set(
@@ -89,14 +90,14 @@ fn execute(instr: Instr, state: &mut MachineState) -> Step
         Instr::Xor { rd, rs1, rs2 } => state.set(rd, state.read(rs1) ^ state.read(rs2)),
         Instr::Srl { rd, rs1, rs2 } => state.set(
             rd,
-            shifted_right(state.read(rs1), amount_of(state.read(rs2))),
+            shifted_right(state.read(rs1), shift_amount(state.read(rs2))),
         ),
         Instr::Or { rd, rs1, rs2 } => state.set(rd, state.read(rs1) | state.read(rs2)),
         Instr::And { rd, rs1, rs2 } => state.set(rd, state.read(rs1) & state.read(rs2)),
         Instr::Sub { rd, rs1, rs2 } => state.set(rd, state.read(rs1).wrapping_sub(state.read(rs2))),
         Instr::Sra { rd, rs1, rs2 } => state.set(
             rd,
-            shifted_right_signed(state.read(rs1), amount_of(state.read(rs2))),
+            shifted_right_signed(state.read(rs1), shift_amount(state.read(rs2))),
         ),
         Instr::Mul { rd, rs1, rs2 } => state.set(rd, state.read(rs1).wrapping_mul(state.read(rs2))),
         Instr::Mulh { rd, rs1, rs2 } => state.set(

@@ -1,4 +1,9 @@
+pub mod Arithmetic
+pub mod Comparing
 pub mod Decoding
+pub mod Effects
 pub mod Laws
+pub mod Runs
+pub mod State
 pub mod Table
 pub mod Words

@@ -8,7 +8,10 @@ use Rattle.first_form.specs.Form.{IsOperand, HasOperands, nesting_of}
 use Rattle.first_form.specs.Meaning.{SourceState, value_of, after_expression, after_operator}
 use Rattle.rv_encode.specs.declared.instruction.Instr.{Instr}
 use Rattle.rv_encode.specs.declared.instruction.Instr.TheVariants.{Lui, Addi, Lw, Sw}
-use Rattle.rv_emulator.specs.Machine.{Goes, next_pc, word_at}
+use Rattle.rv_encode.specs.State.{Running, next_pc, word_at}
+use Rattle.rv_encode.specs.Runs.{pc_of, Leads, Stand}
+use Rattle.rv_encode.proofs.Leads.{leads_then}
+use Rattle.rv_encode.proofs.Places.{most_words, stand_at, stand_left, stand_right}
 use Rattle.rv_encode.specs.Words.{IsWithin}
 use Rattle.rv_encode.proofs.Encodings.{encoded_decodes}
 use Rattle.sat_tool.specs.declared.emit.Operator.{Operator}
@@ -16,8 +19,7 @@ use Rattle.sat_tool.specs.declared.emit.Operator.TheVariants as operator
 use Rattle.sat_tool.specs.Emission.{upper_of, lower_of, number_code, operator_code, slot, kept_code, operand_code, call_code, expression_code}
 use Rattle.sat_tool.proofs.Sizes.{calls_of}
 use Rattle.sat_tool.proofs.Entries.{operator_length}
-use Rattle.sat_tool.proofs.Places.{place, most_words, Stand, stand_left, stand_right}
-use Rattle.sat_tool.proofs.Leads.{Leads, leads_then, leads_on, leads_to_same, leads_from_same, File, here, at}
+use Rattle.sat_tool.proofs.Leads.{leads_on, leads_to_same, leads_from_same, File, here, at}
 use Rattle.sat_tool.proofs.Operators.{Is16, parts_add_up, clip_is_16, is_clipped, flag_after, exact_of, operates, operated}
 use Rattle.sat_tool.proofs.Storage.{address, keeping, Keeps, keeping_keeps, kept, keeps_left, brings_back}
 
@@ -85,18 +87,18 @@ module _ (code : List ℕ) (input output : List ℤ) (levels : ℕ) (few_levels 
   into_x8 k n f memory operand small stand =
       let half : File = record f { x8 = cast_signed w32 (upper_of n * 2 ^ 12) } in
       leads_from_same code input output (at input output (k + 2) (record f { x8 = n }) memory) (k + 0) k f memory (omega arith)
-      (leads_then code _ _ _ (leads_on code input output k 0 (Lui 8 (upper_of n)) f memory (stand 0 (Lui 8 (upper_of n)) refl) (encoded_decodes (Lui 8 (upper_of n)) (omega arith, upper_small n operand)) half memory (omega arith) refl)
-      (leads_on code input output k 1 (Addi 8 8 (lower_of n)) half memory (stand 1 (Addi 8 8 (lower_of n)) refl) (encoded_decodes (Addi 8 8 (lower_of n)) (omega arith, omega arith, lower_within n operand)) (record f { x8 = n }) memory (omega arith)
-      (ap (λ v. Goes (record (here input (k + 1) (record f { x8 = v }) memory) { pc = next_pc (place (k + 1)) })) (parts_add_up n operand))))
+      (leads_then code _ _ _ (leads_on code input output k 0 (Lui 8 (upper_of n)) f memory (stand_at code k (number_code 8 n) stand 0 (Lui 8 (upper_of n)) refl) (encoded_decodes (Lui 8 (upper_of n)) (omega arith, upper_small n operand)) half memory (omega arith) refl)
+      (leads_on code input output k 1 (Addi 8 8 (lower_of n)) half memory (stand_at code k (number_code 8 n) stand 1 (Addi 8 8 (lower_of n)) refl) (encoded_decodes (Addi 8 8 (lower_of n)) (omega arith, omega arith, lower_within n operand)) (record f { x8 = n }) memory (omega arith)
+      (ap (λ v. Running (record (here input output (k + 1) (record f { x8 = v }) memory) { pc = next_pc (pc_of (k + 1)) })) (parts_add_up n operand))))
 
   into_x9 : (k : ℕ) (n : ℤ) (f : File) (memory : List ℕ) → IsOperand n → k + 2 ≤ most_words → Stand code k (number_code 9 n)
       → Leads code (at input output k f memory) (at input output (k + 2) (record f { x9 = n }) memory)
   into_x9 k n f memory operand small stand =
       let half : File = record f { x9 = cast_signed w32 (upper_of n * 2 ^ 12) } in
       leads_from_same code input output (at input output (k + 2) (record f { x9 = n }) memory) (k + 0) k f memory (omega arith)
-      (leads_then code _ _ _ (leads_on code input output k 0 (Lui 9 (upper_of n)) f memory (stand 0 (Lui 9 (upper_of n)) refl) (encoded_decodes (Lui 9 (upper_of n)) (omega arith, upper_small n operand)) half memory (omega arith) refl)
-      (leads_on code input output k 1 (Addi 9 9 (lower_of n)) half memory (stand 1 (Addi 9 9 (lower_of n)) refl) (encoded_decodes (Addi 9 9 (lower_of n)) (omega arith, omega arith, lower_within n operand)) (record f { x9 = n }) memory (omega arith)
-      (ap (λ v. Goes (record (here input (k + 1) (record f { x9 = v }) memory) { pc = next_pc (place (k + 1)) })) (parts_add_up n operand))))
+      (leads_then code _ _ _ (leads_on code input output k 0 (Lui 9 (upper_of n)) f memory (stand_at code k (number_code 9 n) stand 0 (Lui 9 (upper_of n)) refl) (encoded_decodes (Lui 9 (upper_of n)) (omega arith, upper_small n operand)) half memory (omega arith) refl)
+      (leads_on code input output k 1 (Addi 9 9 (lower_of n)) half memory (stand_at code k (number_code 9 n) stand 1 (Addi 9 9 (lower_of n)) refl) (encoded_decodes (Addi 9 9 (lower_of n)) (omega arith, omega arith, lower_within n operand)) (record f { x9 = n }) memory (omega arith)
+      (ap (λ v. Running (record (here input output (k + 1) (record f { x9 = v }) memory) { pc = next_pc (pc_of (k + 1)) })) (parts_add_up n operand))))
 
   -- a right operand that is kept apart from the left one
   kept_length : (depth : ℕ) (instrs : List Instr) → length (kept_code depth instrs) ≡ 1 + length instrs + 2
@@ -120,14 +122,14 @@ module _ (code : List ℕ) (input output : List ℤ) (levels : ℕ) (few_levels 
       let moved : File = record g { x9 = value } in
       let kept_word : word_at r.new (address depth) ≡ Rattle.std.specs.Int.cast_unsigned w32 f.x8 = r.keeps.words depth (omega arith) ∙ kept levels memory depth f.x8 size less left_16 in
       let stored = leads_from_same code input output (at input output (k + (0 + 1)) f (keeping memory depth f.x8)) (k + 0) k f memory (omega arith)
-      (keeps_left code input output levels few_levels k 0 depth f memory (omega arith) size less (stand 0 sw refl)) in
+      (keeps_left code input output levels few_levels k 0 depth f memory (omega arith) size less (stand_at code k (kept_code depth instrs) stand 0 sw refl)) in
       let copied = leads_from_same code input output (at input output (k + 1 + n + 1) moved r.new) (k + 1 + n + 0) (k + 1 + n) g r.new (omega arith)
-      (leads_on code input output (k + 1 + n) 0 (Addi 9 8 (pos 0)) g r.new (end_stand 0 (Addi 9 8 (pos 0)) refl) refl moved r.new (omega arith)
-      (ap (λ v. Goes (record (here input (k + 1 + n + 0) (record g { x9 = v }) r.new) { pc = next_pc (place (k + 1 + n + 0)) })) (ap (λ v. int_wrapping_add w32 v (pos 0)) r.value_is ∙ plus_zero value value_16))) in
+      (leads_on code input output (k + 1 + n) 0 (Addi 9 8 (pos 0)) g r.new (stand_at code (k + 1 + n) tail end_stand 0 (Addi 9 8 (pos 0)) refl) refl moved r.new (omega arith)
+      (ap (λ v. Running (record (here input output (k + 1 + n + 0) (record g { x9 = v }) r.new) { pc = next_pc (pc_of (k + 1 + n + 0)) })) (ap (λ v. int_wrapping_add w32 v (pos 0)) r.value_is ∙ plus_zero value value_16))) in
       let start = at input output k f memory in
       let last = at input output (k + length (kept_code depth instrs)) (record moved { x8 = f.x8 }) r.new in
       let brought = leads_to_same code input output (at input output (k + 1 + n + 1) moved r.new) (k + 1 + n + 2) (k + length (kept_code depth instrs)) (record moved { x8 = f.x8 }) r.new (omega arith)
-      (brings_back code input output levels few_levels (k + 1 + n) 1 depth moved r.new (omega arith) r.keeps.size less f.x8 kept_word left_16 (end_stand 1 (Lw 8 26 (slot depth)) refl)) in
+      (brings_back code input output levels few_levels (k + 1 + n) 1 depth moved r.new (omega arith) r.keeps.size less f.x8 kept_word left_16 (stand_at code (k + 1 + n) tail end_stand 1 (Lw 8 26 (slot depth)) refl)) in
       record {
         file = record moved { x8 = f.x8 };
         new = r.new;
@@ -220,8 +222,8 @@ module _ (code : List ℕ) (input output : List ℤ) (levels : ℕ) (few_levels 
         (subst (λ v. Leads code (at input output middle (record g { x8 = a; x9 = v }) new) (at input output (middle + 10) value new)) (sym in_x9) done.1) in
         let counts_on : Leads code (at input output (middle + 10) value new) (at input output (middle + 10 + 1) last new) =
         leads_from_same code input output (at input output (middle + 10 + 1) last new) (middle + 10 + 0) (middle + 10) value new (omega arith)
-        (leads_on code input output (middle + 10) 0 (Addi 24 24 (pos 1)) value new (stand_count 0 (Addi 24 24 (pos 1)) refl) refl last new (omega arith)
-        (ap (λ v. Goes (record (here input (middle + 10 + 0) (record value { x24 = v }) new) { pc = next_pc (place (middle + 10 + 0)) }))
+        (leads_on code input output (middle + 10) 0 (Addi 24 24 (pos 1)) value new (stand_at code (middle + 10) counting stand_count 0 (Addi 24 24 (pos 1)) refl) refl last new (omega arith)
+        (ap (λ v. Running (record (here input output (middle + 10 + 0) (record value { x24 = v }) new) { pc = next_pc (pc_of (middle + 10 + 0)) }))
         (ap (λ v. int_wrapping_add w32 v (pos 1)) agrees.count ∙ counted t.count few))) in
         record {
           file = last;

@@ -6,7 +6,6 @@ pub mod Headline
 pub mod Leads
 pub mod Nesting
 pub mod Operators
-pub mod Places
 pub mod Refusals
 pub mod Serving
 pub mod Simulation

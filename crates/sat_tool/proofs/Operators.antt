@@ -7,12 +7,19 @@ use Rattle.std.proofs.lemmas.Bool.Decides.{Decides-int_eq}
 use Rattle.sat_base.specs.Clip.{clip16}
 use Rattle.first_form.specs.Form.{IsOperand}
 use Rattle.rv_encode.specs.declared.instruction.Instr.TheVariants.{Lui, Addi, Add, Sub, Blt, Bge, Jal}
-use Rattle.rv_emulator.specs.Machine.{Moment, jumps, goes_on}
+use Rattle.rv_encode.specs.State.{Moment}
+use Rattle.rv_encode.specs.Effects.{jumps, goes_on}
+use Rattle.rv_encode.specs.Runs.{Leads, Stand}
+use Rattle.rv_encode.proofs.Leads.{leads_then}
+use Rattle.rv_encode.proofs.Places.{most_words, stand_at, stand_right}
 use Rattle.sat_tool.specs.declared.emit.Operator.{Operator}
 use Rattle.sat_tool.specs.declared.emit.Operator.TheVariants as operator
 use Rattle.sat_tool.specs.Emission.{upper_of, lower_of, clip_code, operator_code}
-use Rattle.sat_tool.proofs.Places.{most_words, is_false, Stand, stand_right}
-use Rattle.sat_tool.proofs.Leads.{Leads, leads_then, leads_on, leads_over, leads_to_same, leads_from_same, File, here, at, registers_of}
+use Rattle.sat_tool.proofs.Leads.{leads_on, leads_over, leads_to_same, leads_from_same, File, here, at, registers_of}
+
+is_false : (b : Bool) → (b ≡ true → ⊥) → b ≡ false
+is_false true h = absurd (h refl)
+is_false false h = refl
 
 -- a number of 16 bits
 abbrev pub Is16 : ℤ → Type 0
@@ -73,40 +80,40 @@ module _ (code : List ℕ) (input output : List ℤ) (memory : List ℕ) where
     left x6 x8 = record f { x5 = pos 32768; x6 = x6; x8 = x8; x27 = flag_after s f.x27 }
 
     comes_to_test : Leads code (before 0 given) (before 1 compared)
-    comes_to_test = leads_on code input output k 0 (Lui 5 8) given memory (stand 0 (Lui 5 8) refl) refl compared memory (omega arith) refl
+    comes_to_test = leads_on code input output k 0 (Lui 5 8) given memory (stand_at code k clip_code stand 0 (Lui 5 8) refl) refl compared memory (omega arith) refl
 
     -- above the range
     clips_high : int_lt s (pos 32768) ≡ false → Leads code (before 1 compared) (before 9 (record f { x5 = pos 32768; x8 = pos 32767; x27 = pos 1 }))
     clips_high high =
         let clip : File = record f { x5 = pos 32768; x8 = pos 32767 } in
         let raised : File = record f { x5 = pos 32768; x8 = pos 32767; x27 = pos 1 } in
-        leads_then code _ _ _ (leads_on code input output k 1 (Blt 8 5 (pos 16)) compared memory (stand 1 (Blt 8 5 (pos 16)) refl) refl compared memory (omega arith)
-        (ap (λ t. if t then jumps (here input (k + 1) compared memory) (registers_of compared) (pos 16) else goes_on (here input (k + 1) compared memory)) high))
-        (leads_then code _ _ _ (leads_on code input output k 2 (Addi 8 5 (negsuc 0)) compared memory (stand 2 (Addi 8 5 (negsuc 0)) refl) refl clip memory (omega arith) refl)
-        (leads_then code _ _ _ (leads_on code input output k 3 (Addi 27 0 (pos 1)) clip memory (stand 3 (Addi 27 0 (pos 1)) refl) refl raised memory (omega arith) refl)
-        (leads_over code input output k 4 (Jal 0 (pos 20)) raised memory (stand 4 (Jal 0 (pos 20)) refl) refl 5 raised (omega arith) (omega arith) refl)))
+        leads_then code _ _ _ (leads_on code input output k 1 (Blt 8 5 (pos 16)) compared memory (stand_at code k clip_code stand 1 (Blt 8 5 (pos 16)) refl) refl compared memory (omega arith)
+        (ap (λ t. if t then jumps (here input output (k + 1) compared memory) (registers_of compared) (pos 16) else goes_on (here input output (k + 1) compared memory)) high))
+        (leads_then code _ _ _ (leads_on code input output k 2 (Addi 8 5 (negsuc 0)) compared memory (stand_at code k clip_code stand 2 (Addi 8 5 (negsuc 0)) refl) refl clip memory (omega arith) refl)
+        (leads_then code _ _ _ (leads_on code input output k 3 (Addi 27 0 (pos 1)) clip memory (stand_at code k clip_code stand 3 (Addi 27 0 (pos 1)) refl) refl raised memory (omega arith) refl)
+        (leads_over code input output k 4 (Jal 0 (pos 20)) raised memory (stand_at code k clip_code stand 4 (Jal 0 (pos 20)) refl) refl 5 raised (omega arith) (omega arith) refl)))
 
     comes_to_second : int_lt s (pos 32768) ≡ true → Leads code (before 1 compared) (before 6 limited)
     comes_to_second high =
-        leads_then code _ _ _ (leads_over code input output k 1 (Blt 8 5 (pos 16)) compared memory (stand 1 (Blt 8 5 (pos 16)) refl) refl 4 compared (omega arith) (omega arith)
-        (ap (λ t. if t then jumps (here input (k + 1) compared memory) (registers_of compared) (pos 16) else goes_on (here input (k + 1) compared memory)) high))
-        (leads_on code input output k 5 (Lui 6 0xFFFF8) compared memory (stand 5 (Lui 6 0xFFFF8) refl) refl limited memory (omega arith) refl)
+        leads_then code _ _ _ (leads_over code input output k 1 (Blt 8 5 (pos 16)) compared memory (stand_at code k clip_code stand 1 (Blt 8 5 (pos 16)) refl) refl 4 compared (omega arith) (omega arith)
+        (ap (λ t. if t then jumps (here input output (k + 1) compared memory) (registers_of compared) (pos 16) else goes_on (here input output (k + 1) compared memory)) high))
+        (leads_on code input output k 5 (Lui 6 0xFFFF8) compared memory (stand_at code k clip_code stand 5 (Lui 6 0xFFFF8) refl) refl limited memory (omega arith) refl)
 
     -- below the range
     clips_low : int_lt s (negsuc 32767) ≡ true → Leads code (before 6 limited) (before 9 (record f { x5 = pos 32768; x6 = negsuc 32767; x8 = negsuc 32767; x27 = pos 1 }))
     clips_low low =
         let clip : File = record f { x5 = pos 32768; x6 = negsuc 32767; x8 = negsuc 32767 } in
         let raised : File = record f { x5 = pos 32768; x6 = negsuc 32767; x8 = negsuc 32767; x27 = pos 1 } in
-        leads_then code _ _ _ (leads_on code input output k 6 (Bge 8 6 (pos 12)) limited memory (stand 6 (Bge 8 6 (pos 12)) refl) refl limited memory (omega arith)
-        (ap (λ t. if t then goes_on (here input (k + 6) limited memory) else jumps (here input (k + 6) limited memory) (registers_of limited) (pos 12)) low))
-        (leads_then code _ _ _ (leads_on code input output k 7 (Addi 8 6 (pos 0)) limited memory (stand 7 (Addi 8 6 (pos 0)) refl) refl clip memory (omega arith) refl)
-        (leads_on code input output k 8 (Addi 27 0 (pos 1)) clip memory (stand 8 (Addi 27 0 (pos 1)) refl) refl raised memory (omega arith) refl))
+        leads_then code _ _ _ (leads_on code input output k 6 (Bge 8 6 (pos 12)) limited memory (stand_at code k clip_code stand 6 (Bge 8 6 (pos 12)) refl) refl limited memory (omega arith)
+        (ap (λ t. if t then goes_on (here input output (k + 6) limited memory) else jumps (here input output (k + 6) limited memory) (registers_of limited) (pos 12)) low))
+        (leads_then code _ _ _ (leads_on code input output k 7 (Addi 8 6 (pos 0)) limited memory (stand_at code k clip_code stand 7 (Addi 8 6 (pos 0)) refl) refl clip memory (omega arith) refl)
+        (leads_on code input output k 8 (Addi 27 0 (pos 1)) clip memory (stand_at code k clip_code stand 8 (Addi 27 0 (pos 1)) refl) refl raised memory (omega arith) refl))
 
     -- in the range
     passes : int_lt s (negsuc 32767) ≡ false → Leads code (before 6 limited) (before 9 limited)
     passes low =
-        leads_over code input output k 6 (Bge 8 6 (pos 12)) limited memory (stand 6 (Bge 8 6 (pos 12)) refl) refl 3 limited (omega arith) (omega arith)
-        (ap (λ t. if t then goes_on (here input (k + 6) limited memory) else jumps (here input (k + 6) limited memory) (registers_of limited) (pos 12)) low)
+        leads_over code input output k 6 (Bge 8 6 (pos 12)) limited memory (stand_at code k clip_code stand 6 (Bge 8 6 (pos 12)) refl) refl 3 limited (omega arith) (omega arith)
+        (ap (λ t. if t then goes_on (here input output (k + 6) limited memory) else jumps (here input output (k + 6) limited memory) (registers_of limited) (pos 12)) low)
 
     -- the registers that the words leave, as the definitions name them
     named : (x6 x8 x27 : ℤ) → x8 ≡ clip16 s → x27 ≡ flag_after s f.x27
@@ -163,10 +170,10 @@ module _ (code : List ℕ) (input output : List ℤ) (memory : List ℕ) (k : �
       → Leads code (at input output (k + 0) operands memory) (at input output (k + 1) (record f { x8 = exact_of op a b; x9 = b }) memory)
   computes operator.Add stand =
       subst (λ v. Leads code (at input output (k + 0) operands memory) (at input output (k + 1) (record f { x8 = v; x9 = b }) memory)) (sum_is a b is_a is_b)
-      (leads_on code input output k 0 (Add 8 8 9) operands memory (stand 0 (Add 8 8 9) refl) refl (record f { x8 = int_wrapping_add w32 a b; x9 = b }) memory (omega arith) refl)
+      (leads_on code input output k 0 (Add 8 8 9) operands memory (stand_at code k (operator_code operator.Add) stand 0 (Add 8 8 9) refl) refl (record f { x8 = int_wrapping_add w32 a b; x9 = b }) memory (omega arith) refl)
   computes operator.Sub stand =
       subst (λ v. Leads code (at input output (k + 0) operands memory) (at input output (k + 1) (record f { x8 = v; x9 = b }) memory)) (difference_is a b is_a is_b)
-      (leads_on code input output k 0 (Sub 8 8 9) operands memory (stand 0 (Sub 8 8 9) refl) refl (record f { x8 = int_wrapping_sub w32 a b; x9 = b }) memory (omega arith) refl)
+      (leads_on code input output k 0 (Sub 8 8 9) operands memory (stand_at code k (operator_code operator.Sub) stand 0 (Sub 8 8 9) refl) refl (record f { x8 = int_wrapping_sub w32 a b; x9 = b }) memory (omega arith) refl)
 
   stand_clip : (op : Operator) → Stand code k (operator_code op) → Stand code (k + 1) clip_code
   stand_clip operator.Add stand = stand_right code k (Add 8 8 9 ∷ []) clip_code stand

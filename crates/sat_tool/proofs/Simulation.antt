@@ -1,5 +1,5 @@
 -- The machine does what a source of the first form does.
-use Rattle.std.proofs.Common.{◌≡◌, ℕ, ◌+◌, ◌*◌, ◌^◌, ◌<◌, ◌≤◌, ℤ, pos, List, [], ◌∷◌, ◌++◌, length, map, Some, refl, sym, ap, ◌∙◌, subst, arith, length-append}
+use Rattle.std.proofs.Common.{◌≡◌, ℕ, ◌+◌, ◌*◌, ◌^◌, ◌<◌, ◌≤◌, ℤ, pos, List, [], ◌∷◌, ◌++◌, length, map, Some, refl, sym, ap, ◌∙◌, subst, arith, length-append, append-nil}
 use Rattle.std.specs.Prelude.{All}
 use Rattle.std.specs.List.{flat_map}
 use Rattle.std.specs.Int.{w32, cast_unsigned}
@@ -13,16 +13,18 @@ use Rattle.first_form.specs.Form.{HasOperands, nesting_of}
 use Rattle.first_form.specs.Meaning.{SourceState, value_of, after_expression, after_out, after_outs, observed}
 use Rattle.first_form.specs.Meaning as meaning
 use Rattle.rv_encode.specs.declared.instruction.Instr.TheVariants.{Lui, Addi, Ecall}
-use Rattle.rv_emulator.specs.declared.state.Ending.TheVariants.{Ended}
 use Rattle.rv_encode.specs.Words.{encoded}
-use Rattle.rv_emulator.specs.Machine.{Running, Over, Goes, moment, after_effect, executed, next_pc, first_state, fetched}
-use Rattle.rv_emulator.specs.RunsAlike.{RunsAlike}
-use Rattle.rv_emulator.proofs.Alike.{runs_alike}
+use Rattle.rv_encode.specs.State.{Ended, Running, Over, next_pc}
+use Rattle.rv_encode.specs.Runs.{pc_of, fetched, executed, moment_after, Leads, Stand}
+use Rattle.rv_encode.proofs.Leads.{leads_nowhere, leads_then, leads_in, leads_reached}
+use Rattle.rv_encode.proofs.Places.{most_words, next_pc_of, stand_at, stand_left, stand_right, stand_after}
+use Rattle.image_format.specs.Runs.{loaded}
+use Rattle.image_format.specs.RunsAlike.{RunsAlike}
+use Rattle.image_format.proofs.Alike.{runs_alike}
 use Rattle.sat_tool.specs.Emission.{expression_code, out_code, environment_code, code_of, levels_of, memory_of, image_of}
 use Rattle.sat_tool.proofs.Sizes.{calls_of, calls_in}
 use Rattle.sat_tool.proofs.Nesting.{deepest-within, within-deepest}
-use Rattle.sat_tool.proofs.Places.{place, most_words, next_place, Stand, stand_left, stand_right, stand_whole}
-use Rattle.sat_tool.proofs.Leads.{Leads, leads_then, leads_by, leads_on, leads_nowhere, leads_to_same, leads_from_same, File, zero_file, here, at}
+use Rattle.sat_tool.proofs.Leads.{leads_by, leads_on, leads_to_same, leads_from_same, File, zero_file, here, at}
 use Rattle.sat_tool.proofs.Operators.{Is16}
 use Rattle.sat_tool.proofs.Evaluation.{Agrees, reaches, plus_zero, value_is_16, counts}
 
@@ -46,23 +48,23 @@ module _ (code : List ℕ) (input : List ℤ) (levels : ℕ) (few_levels : level
       let written = output ++ low16 f.x8 ∷ [] in
       leads_from_same code input output (at input written (k + 3) called memory) (k + 0) k f memory (omega arith)
       (leads_then code (at input output (k + 0) f memory) (at input output (k + 1) moved memory) (at input written (k + 3) called memory)
-      (leads_on code input output k 0 (Addi 10 8 (pos 0)) f memory (stand 0 (Addi 10 8 (pos 0)) refl) refl moved memory (omega arith)
-      (ap (λ v. Goes (record (here input (k + 0) (record f { x10 = v }) memory) { pc = next_pc (place (k + 0)) })) (plus_zero f.x8 is_16)))
+      (leads_on code input output k 0 (Addi 10 8 (pos 0)) f memory (stand_at code k (Addi 10 8 (pos 0) ∷ environment_code (pos 3)) stand 0 (Addi 10 8 (pos 0)) refl) refl moved memory (omega arith)
+      (ap (λ v. Running (record (here input output (k + 0) (record f { x10 = v }) memory) { pc = next_pc (pc_of (k + 0)) })) (plus_zero f.x8 is_16)))
       (leads_then code (at input output (k + 1) moved memory) (at input output (k + 2) called memory) (at input written (k + 3) called memory)
-      (leads_on code input output k 1 (Addi 17 0 (pos 3)) moved memory (stand 1 (Addi 17 0 (pos 3)) refl) refl called memory (omega arith) refl)
-      (subst (λ p. Leads code (at input output (k + 2) called memory) (moment (Running (record (here input (k + 2) called memory) { pc = p })) written)) (next_place k 2 (omega arith))
-      (leads_by code input output k 2 Ecall called memory (stand 2 Ecall refl) refl))))
+      (leads_on code input output k 1 (Addi 17 0 (pos 3)) moved memory (stand_at code k (Addi 10 8 (pos 0) ∷ environment_code (pos 3)) stand 1 (Addi 17 0 (pos 3)) refl) refl called memory (omega arith) refl)
+      (subst (λ p. Leads code (at input output (k + 2) called memory) (Running (record (here input written (k + 2) called memory) { pc = p }))) (next_pc_of k 2 (omega arith))
+      (leads_by code input output k 2 Ecall called memory (stand_at code k (Addi 10 8 (pos 0) ∷ environment_code (pos 3)) stand 2 Ecall refl) refl))))
 
   -- the end of `main`
   ends : (output : List ℤ) (k : ℕ) (f : File) (memory : List ℕ) → k + 2 ≤ most_words → Stand code k (environment_code (pos 4))
-      → Leads code (at input output k f memory) (moment (Over (Ended f.x27 (cast_unsigned w32 (pos 0) * 2 ^ 32 + cast_unsigned w32 f.x24))) output)
+      → Leads code (at input output k f memory) (Over (Ended f.x27 (cast_unsigned w32 (pos 0) * 2 ^ 32 + cast_unsigned w32 f.x24)) output)
   ends output k f memory small stand =
       let called : File = record f { x17 = pos 4 } in
-      let last = moment (Over (Ended f.x27 (cast_unsigned w32 (pos 0) * 2 ^ 32 + cast_unsigned w32 f.x24))) output in
+      let last = Over (Ended f.x27 (cast_unsigned w32 (pos 0) * 2 ^ 32 + cast_unsigned w32 f.x24)) output in
       leads_from_same code input output last (k + 0) k f memory (omega arith)
       (leads_then code (at input output (k + 0) f memory) (at input output (k + 1) called memory) last
-      (leads_on code input output k 0 (Addi 17 0 (pos 4)) f memory (stand 0 (Addi 17 0 (pos 4)) refl) refl called memory (omega arith) refl)
-      (leads_by code input output k 1 Ecall called memory (stand 1 Ecall refl) refl))
+      (leads_on code input output k 0 (Addi 17 0 (pos 4)) f memory (stand_at code k (environment_code (pos 4)) stand 0 (Addi 17 0 (pos 4)) refl) refl called memory (omega arith) refl)
+      (leads_by code input output k 1 Ecall called memory (stand_at code k (environment_code (pos 4)) stand 1 Ecall refl) refl))
 
   -- the statements have been executed, and the source has come to this state
   record Written (k size : ℕ) (s after : SourceState) (f : File) (memory : List ℕ) : Type 0 where
@@ -135,12 +137,12 @@ module _ (code : List ℕ) (input : List ℤ) (levels : ℕ) (few_levels : level
 
 -- ---- whole runs
 
-begins : (first : First) (input : List ℤ) → Leads (map encoded (code_of first)) (moment (Running (first_state (image_of first) input)) []) (at input [] 1 zero_file (memory_of first))
+begins : (first : First) (input : List ℤ) → Leads (map encoded (code_of first)) (Running (loaded (image_of first) input)) (at input [] 1 zero_file (memory_of first))
 begins first input =
     let code = map encoded (code_of first) in
-    let s = first_state (image_of first) input in
+    let s = loaded (image_of first) input in
     let stands : fetched code 65536 ≡ Some (encoded (Lui 26 0x10000)) = refl in
-    record { steps = 1; by = ap (λ o. after_effect (executed o s) []) stands }
+    leads_in code 1 (Running s) (at input [] 1 zero_file (memory_of first)) (ap (λ o. executed o s) stands)
 
 as_count : (c : ℕ) → c ≤ 131072 → cast_unsigned w32 (pos 0) * 2 ^ 32 + cast_unsigned w32 (pos c) ≡ c
 as_count c small = grind (arith, ints)
@@ -161,14 +163,15 @@ module _ (first : First) (operands : All HasOperands first.outs) (shallow : All 
   within : All (λ e. nesting_of e ≤ levels + 1) first.outs
   within = within-deepest (levels + 1) first.outs (omega arith)
 
-  runs_to_end : (input : List ℤ) → Leads code (moment (Running (first_state (image_of first) input)) []) (moment (Over (Ended last.overflow last.count)) last.output)
+  runs_to_end : (input : List ℤ) → Leads code (Running (loaded (image_of first) input)) (Over (Ended last.overflow last.count) last.output)
   runs_to_end input =
       let body = flat_map out_code first.outs in
       let ending = environment_code (pos 4) in
       let lui = Lui 26 0x10000 in
       let n = length body in
       let whole : length (code_of first) ≡ 1 + n + 2 = omega (arith, length-append body ending) in
-      let rest : Stand code 1 (body ++ ending) = stand_right code 0 (lui ∷ []) (body ++ ending) (stand_whole (code_of first)) in
+      let whole_stands : Stand code 0 (code_of first) = subst (λ words. Stand words 0 (code_of first)) (append-nil code) (stand_after [] (code_of first) []) in
+      let rest : Stand code 1 (body ++ ending) = stand_right code 0 (lui ∷ []) (body ++ ending) whole_stands in
       let total : last.count ≡ calls_in first.outs = omega (arith, counts_all first.outs meaning.first_state) in
       let done = writes_all code input levels few_levels 1 first.outs meaning.first_state zero_file (memory_of first) operands within (stand_left code 1 body ending rest) (omega arith) (length-replicate (4 * levels) 0) (omega arith) (record { count = refl; flag = refl }) in
       let f = done.file in
@@ -176,11 +179,14 @@ module _ (first : First) (operands : All HasOperands first.outs) (shallow : All 
       let flag : f.x27 ≡ last.overflow = done.agrees.flag in
       let count : cast_unsigned w32 (pos 0) * 2 ^ 32 + cast_unsigned w32 f.x24 ≡ last.count =
       ap (λ v. cast_unsigned w32 (pos 0) * 2 ^ 32 + cast_unsigned w32 v) done.agrees.count ∙ as_count last.count (omega arith) in
-      let start = moment (Running (first_state (image_of first) input)) [] in
-      let finish = moment (Over (Ended last.overflow last.count)) last.output in
+      let start = Running (loaded (image_of first) input) in
+      let finish = Over (Ended last.overflow last.count) last.output in
       leads_then code start (at input [] 1 zero_file (memory_of first)) finish (begins first input) (leads_then code (at input [] 1 zero_file (memory_of first)) (at input last.output (1 + n) f done.new) finish done.leads
-      (subst (λ v. Leads code (at input last.output (1 + n) f done.new) (moment (Over (Ended v last.count)) last.output)) flag
-      (subst (λ c. Leads code (at input last.output (1 + n) f done.new) (moment (Over (Ended f.x27 c)) last.output)) count ended)))
+      (subst (λ v. Leads code (at input last.output (1 + n) f done.new) (Over (Ended v last.count) last.output)) flag
+      (subst (λ c. Leads code (at input last.output (1 + n) f done.new) (Over (Ended f.x27 c) last.output)) count ended)))
+
+  reached : (input : List ℤ) → (n : ℕ) × (moment_after code n (Running (loaded (image_of first) input)) ≡ Over (Ended last.overflow last.count) last.output)
+  reached input = leads_reached code (Running (loaded (image_of first) input)) (Over (Ended last.overflow last.count) last.output) (runs_to_end input)
 
   pub runs : RunsAlike (observed first) (image_of first)
-  runs = runs_alike (observed first) (image_of first) last.output last.overflow last.count (λ input. (runs_to_end input).steps) (λ input. (runs_to_end input).by) (λ input n. refl)
+  runs = runs_alike (observed first) (image_of first) last.output last.overflow last.count (λ input. (reached input).0) (λ input. (reached input).1) (λ input n. refl)

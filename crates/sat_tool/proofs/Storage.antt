@@ -6,12 +6,14 @@ use Rattle.std.proofs.lemmas.Int.{ints}
 use Rattle.sat_base.specs.declared.machine_fault.MachineFault.TheVariants.{Load, Store, Align}
 use Rattle.rv_encode.specs.declared.instruction.Instr.TheVariants.{Lw, Sw}
 use Rattle.rv_encode.specs.Words.{encoded, IsWithin}
-use Rattle.rv_emulator.specs.Machine.{Effect, Goes, data_start, is_inside, word_at, with_word, stores, loads, faults, next_pc, address_of}
+use Rattle.rv_encode.specs.State.{Moment, Running, data_start, is_inside, word_at, with_word, next_pc, address_of}
+use Rattle.rv_encode.specs.Moments.{stores, loads, faults}
+use Rattle.rv_encode.specs.Runs.{Leads}
 use Rattle.rv_encode.proofs.Encodings.{encoded_decodes}
-use Rattle.rv_emulator.proofs.Stores.{stored_is_loaded, others_stay}
+use Rattle.rv_encode.proofs.Stores.{stored_is_loaded, others_stay}
 use Rattle.sat_tool.specs.Emission.{slot}
-use Rattle.sat_tool.proofs.Places.{most_words}
-use Rattle.sat_tool.proofs.Leads.{Leads, leads_on, File, here, at}
+use Rattle.rv_encode.proofs.Places.{most_words}
+use Rattle.sat_tool.proofs.Leads.{leads_on, File, here, at}
 use Rattle.sat_tool.proofs.Operators.{Is16}
 
 -- the address of the word that keeps an operand at this depth
@@ -66,8 +68,8 @@ brought_back value (low, high) = grind (arith, ints)
 slot_within : (depth : ℕ) → depth < 64 → IsWithin 2048 (slot depth)
 slot_within depth less = grind (arith, ints)
 
-address_is : (input : List ℤ) (k : ℕ) (f : File) (memory : List ℕ) (depth : ℕ) → depth < 64 → address_of (here input k f memory) 26 (slot depth) ≡ address depth
-address_is input k f memory depth less = sum depth less
+address_is : (input output : List ℤ) (k : ℕ) (f : File) (memory : List ℕ) (depth : ℕ) → depth < 64 → address_of (here input output k f memory) 26 (slot depth) ≡ address depth
+address_is input output k f memory depth less = sum depth less
   where
     sum : (depth : ℕ) → depth < 64 → (cast_unsigned w32 (pos 0x10000000) + cast_unsigned w32 (slot depth)) % 2 ^ 32 ≡ address depth
     sum depth less = grind (arith, ints)
@@ -77,10 +79,10 @@ module _ (code : List ℕ) (input output : List ℤ) (levels : ℕ) (few_levels 
   pub keeps_left : slice_get code (k + i) ≡ Some (encoded (Sw 26 8 (slot depth)))
       → Leads code (at input output (k + i) f memory) (at input output (k + (i + 1)) f (keeping memory depth f.x8))
   keeps_left stands =
-      let s = here input (k + i) f memory in
-      let goes : Effect = Goes (record s { memory = keeping memory depth f.x8; pc = next_pc s.pc }) in
+      let s = here input output (k + i) f memory in
+      let goes : Moment = Running (record s { memory = keeping memory depth f.x8; pc = next_pc s.pc }) in
       leads_on code input output k i (Sw 26 8 (slot depth)) f memory stands (encoded_decodes (Sw 26 8 (slot depth)) (omega arith, omega arith, slot_within depth (omega arith))) f (keeping memory depth f.x8) small
-      (ap (λ a. stores s a f.x8) (address_is input (k + i) f memory depth (omega arith))
+      (ap (λ a. stores s a f.x8) (address_is input output (k + i) f memory depth (omega arith))
       ∙ ap (λ (b : Bool). if b then (if is_inside memory (address depth) 4 then goes else faults s Store) else faults s Align) (aligned depth)
       ∙ ap (λ (b : Bool). if b then goes else faults s Store) (inside levels memory depth size less))
 
@@ -89,10 +91,10 @@ module _ (code : List ℕ) (input output : List ℤ) (levels : ℕ) (few_levels 
       → slice_get code (k + i) ≡ Some (encoded (Lw 8 26 (slot depth)))
       → Leads code (at input output (k + i) f memory) (at input output (k + (i + 1)) (record f { x8 = value }) memory)
   brings_back value word is_16 stands =
-      let s = here input (k + i) f memory in
-      let goes : ℤ → Effect = λ v. Goes (record (here input (k + i) (record f { x8 = v }) memory) { pc = next_pc s.pc }) in
+      let s = here input output (k + i) f memory in
+      let goes : ℤ → Moment = λ v. Running (record (here input output (k + i) (record f { x8 = v }) memory) { pc = next_pc s.pc }) in
       leads_on code input output k i (Lw 8 26 (slot depth)) f memory stands (encoded_decodes (Lw 8 26 (slot depth)) (omega arith, omega arith, slot_within depth (omega arith))) (record f { x8 = value }) memory small
-      (ap (λ a. loads s 8 a) (address_is input (k + i) f memory depth (omega arith))
+      (ap (λ a. loads s 8 a) (address_is input output (k + i) f memory depth (omega arith))
       ∙ ap (λ (b : Bool). if b then (if is_inside memory (address depth) 4 then goes (cast_signed w32 (word_at memory (address depth))) else faults s Load) else faults s Align) (aligned depth)
       ∙ ap (λ (b : Bool). if b then goes (cast_signed w32 (word_at memory (address depth))) else faults s Load) (inside levels memory depth size less)
       ∙ ap (λ w. goes (cast_signed w32 w)) word ∙ ap goes (brought_back value is_16))

@@ -10,7 +10,7 @@ use Rattle.first_form.specs.declared.first.First.{First}
 use Rattle.first_form.specs.Form.{IsFirst}
 use Rattle.first_form.specs.Meaning.{observed}
 use Rattle.image_format.specs.declared.image.Image.{Image}
-use Rattle.rv_emulator.specs.RunsAlike.{RunsAlike}
+use Rattle.image_format.specs.RunsAlike.{RunsAlike}
 use Rattle.sat_tool.specs.Sites.{HoldsSites, sites_of}
 
 -- the text is within the length of a source and keeps the lexical rules, and these are its tokens

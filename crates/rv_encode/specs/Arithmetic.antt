@@ -13,8 +13,8 @@ abbrev pub is_below : ℤ → ℤ → Bool
 is_below a b = nat_lt (cast_unsigned w32 a) (cast_unsigned w32 b)
 
 -- the low 5 bits, by which a register is shifted
-abbrev pub amount_of : ℤ → ℕ
-amount_of b = cast_unsigned w32 b % 32
+abbrev pub shift_amount : ℤ → ℕ
+shift_amount b = cast_unsigned w32 b % 32
 
 abbrev pub shifted_left : ℤ → ℕ → ℤ
 shifted_left a amount = int_shl w32 a amount

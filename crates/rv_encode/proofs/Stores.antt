@@ -4,7 +4,7 @@ use Rattle.std.specs.Int.{w32, from_le_bytes, to_le_bytes}
 use Rattle.std.proofs.lemmas.Bool.{and_parts, leb-true}
 use Rattle.std.proofs.lemmas.List.{length-take-le, take_at, take-take, take-append-le, drop_at, drop-append-le, drop-drop, drop-take}
 use Rattle.std.proofs.lemmas.Nat.{from_le_bytes-to_le_bytes_4}
-use Rattle.rv_emulator.specs.Machine.{data_start, is_inside, with_word, word_at}
+use Rattle.rv_encode.specs.State.{data_start, is_inside, with_word, word_at}
 
 -- four bytes in the place of those from a place on
 abbrev replaced : List ℕ → ℕ → List ℕ → List ℕ

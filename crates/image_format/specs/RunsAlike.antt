@@ -1,9 +1,10 @@
 -- When an image does what a source does, whatever it is given to read.
-use Rattle.std.specs.Prelude.{◌≡◌, ◌≢◌, ℕ, ◌≤◌, ℤ, pos, negsuc, ◌≤ℤ◌, List, ◌++◌, All}
+use Rattle.std.specs.Prelude.{◌≡◌, ◌≢◌, ℕ, ◌≤◌, ℤ, pos, negsuc, ◌≤ℤ◌, List, All}
 use Rattle.sat_base.specs.Observation.{Observation, End, Stop, Going, Fault, output_of}
 use Rattle.sat_base.specs.declared.machine_fault.MachineFault.{MachineFault}
 use Rattle.image_format.specs.declared.image.Image.{Image}
-use Rattle.rv_emulator.specs.Machine.{machine_observed}
+use Rattle.rv_encode.specs.Runs.{IsPrefix}
+use Rattle.image_format.specs.Runs.{machine_observed}
 
 -- samples of 16 bits
 abbrev pub AreSamples : List ℤ → Type 0
@@ -21,10 +22,6 @@ IsGoing (End output overflow count) = ⊥
 IsGoing (Stop site output) = ⊥
 IsGoing (Going output) = Unit {0}
 IsGoing (Fault pc kind output) = ⊥
-
--- the one list begins the other
-abbrev pub IsPrefix : List ℤ → List ℤ → Type 0
-IsPrefix front whole = (rest : List ℤ) × (whole ≡ front ++ rest)
 
 -- A source is given by what is observed of it on an input at a number of turns, and an image by what is
 -- observed of it after a number of instructions. On every input:
