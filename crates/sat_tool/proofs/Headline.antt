@@ -1,127 +1,167 @@
 -- What a run says of `build` over a store and a sink that tell what they hold and count no fault.
-use Rattle.std.proofs.Common.{◌≡◌, ℕ, suc, ◌⊎◌, List, [], ◌∷◌, ◌++◌, length, Option, Some, refl, sym, ap, ◌∙◌, subst, inl, inr, ⊎_elim, arith}
+use Rattle.std.proofs.Common.{◌≡◌, ◌≤◌, ℕ, suc, ◌⊎◌, List, [], ◌∷◌, ◌++◌, length, Option, Some, None, refl, sym, ap, ◌∙◌, subst, inl, inr, ⊎_elim, arith}
+use Rattle.std.proofs.lemmas.Option.{none-some}
 use Rattle.std.specs.FinMap as map
-use Rattle.first_form.specs.declared.first.First.{First}
 use Rattle.image_format.specs.declared.image.Image.{Image}
 use Rattle.image_format.specs.declared.image.SiteEntry.{SiteEntry}
-use Rattle.store_io.specs.Outside.{Files, Rose, IsCalm}
-use Rattle.sat_tool.specs.Accepted.{IsAccepted, IsRefused, IsImageOf, Compiles}
-use Rattle.sat_tool.specs.Command.{Command, Build, IsCommand}
 use Rattle.image_format.specs.ImageBytes.{image_bytes}
+use Rattle.operator_meaning.specs.declared.object.Site.{Site}
+use Rattle.sat_compile.specs.Accepted.{IsAccepted, IsRefused, IsImageOf}
+use Rattle.sat_compile.specs.Causes.{MayShow}
+use Rattle.sat_compile.specs.Promise.{Compiles, AreEntriesOf}
+use Rattle.sat_compile.specs.Source.{Source, Treatment}
+use Rattle.sat_compile.proofs.Accepted.{one_source, not_shown}
+use Rattle.store_io.specs.Outside.{Files, Rose, IsCalm, IsMissing, files_with, text_with}
+use Rattle.sat_tool.specs.declared.outcome.Outcome.{Outcome}
+use Rattle.sat_tool.specs.Build.{IsUnfit, IsDone}
+use Rattle.sat_tool.specs.Command.{Command, Build, IsCommand}
+use Rattle.sat_tool.specs.Commands.{inputs_of}
+use Rattle.sat_tool.specs.Commands as Commands
+use Rattle.sat_tool.specs.Files.{Output}
+use Rattle.sat_tool.specs.Headline.{IsHonest, AsksToBuild, BuildsAccepted, RefusesOthers}
 use Rattle.sat_tool.specs.Lines.{sites_line}
-use Rattle.sat_tool.specs.Refusals.{MayShow}
-use Rattle.sat_tool.specs.Run.{StoreView, SinkView, store_view, sink_view, Job, Done, Refused, NoCommand, NoMemory, Missing, CannotRead, CannotWrite, IsRun, Serves, HasCause, IsTold, status_of, text_of}
-use Rattle.sat_tool.specs.Headline.{BuildsAccepted, RefusesOthers}
-use Rattle.sat_tool.specs.Sites.{Site, AreEntriesOf, sites_of}
-use Rattle.sat_tool.proofs.Refusals.{one_first, not_shown}
+use Rattle.sat_tool.specs.Run.{IsRun, Comes, Course, Unread, Writes, Tells, IsTextOf}
+use Rattle.sat_tool.specs.Run as run
+use Rattle.sat_tool.specs.Statuses.{status_of, text_of}
+use Rattle.sat_tool.specs.World.{StoreView, SinkView, World}
 
 not_both : (before now : ℕ) → IsCalm before now → Rose before now → ⊥
 not_both before now calm rose = omega (arith, calm, rose)
 
 -- as many entries as sites
-as_many : (code : List ℕ) (sites : List Site) (entries : List SiteEntry) → AreEntriesOf code sites entries → length entries ≡ length sites
-as_many code [] [] are = refl
-as_many code [] (entry ∷ entries) are = absurd are
-as_many code (site ∷ sites) [] are = absurd are
-as_many code (site ∷ sites) (entry ∷ entries) are = ap suc (as_many code sites entries are.1)
+as_many : (code : List ℕ) (sites : List Site) (treatments : List Treatment) (entries : List SiteEntry)
+    → AreEntriesOf code sites treatments entries → length entries ≡ length sites
+as_many code [] [] [] are = refl
+as_many code [] [] (entry ∷ entries) are = absurd are
+as_many code [] (treatment ∷ treatments) entries are = absurd are
+as_many code (site ∷ sites) [] entries are = absurd are
+as_many code (site ∷ sites) (treatment ∷ treatments) [] are = absurd are
+as_many code (site ∷ sites) (treatment ∷ treatments) (entry ∷ entries) are = ap suc (as_many code sites treatments entries are.1)
 
-module _ (words : List (List ℕ)) (files : Files) (new : StoreView) (before : ℕ) (written : List ℕ) (sink_before : ℕ) (sink_new : SinkView) (status : ℕ)
-    (source target text : List ℕ) (asked : IsCommand words (Build source target)) (held : map.get files source ≡ Some text)
-    (calm : IsCalm before new.faults) (sink_calm : IsCalm sink_before sink_new.faults) where
-  abbrev old : StoreView
-  old = store_view (Some files) before
+-- ---- what is told over a calm sink
 
-  -- what an accepted source comes to
-  abbrev Built : First → Type 0
-  Built first = (status ≡ 3) ⊎ ((status ≡ 0) × ((image : Image) × Compiles first image
-      × (new.files ≡ Some (map.insert files target (image_bytes image))) × (sink_new.written ≡ Some (written ++ sites_line (length (sites_of first))))))
+-- the status is the outcome's, and its text was put
+record IsTold (outcome : Outcome) (written : List ℕ) (new : SinkView) (status : ℕ) : Type 0 where
+  status_is : status ≡ status_of outcome
+  text_is : (text : List ℕ) → text_of outcome ≡ Some text → new.written ≡ Some (written ++ text)
 
-  abbrev Rejected : Type 0
-  Rejected = (status ≡ 3) ⊎ ((status ≡ 1) × (new.files ≡ Some files) × ((line : List ℕ) × MayShow text line × (sink_new.written ≡ Some (written ++ line))))
+some_output : (a b : Output) → Some a ≡ Some b → a ≡ b
+some_output a b e = cc
 
-  abbrev Told : Job → Type 0
-  Told job = (status ≡ status_of job) × (sink_new.written ≡ Some (written ++ text_of job))
+some_same : (a b : List ℕ) (o : Option (List ℕ)) → o ≡ Some a → o ≡ Some b → a ≡ b
+some_same a b o is other = cc
 
-  built_by : (first : First) → IsAccepted text first → (s t : List ℕ) → s ≡ source → t ≡ target → (job : Job) → Serves (Build s t) old new job → Told job → Built first
-  built_by first accepted s t same_source same_target (Done image) served told =
-      let here : served.0 ≡ text = let a = served.1 in let b = held in let c = same_source in cc in
-      let of = subst (λ x. IsImageOf x image) here served.2 in
-      let same : of.first ≡ first = one_first text of.first first of.accepted accepted in
-      let compiles = subst (λ f. Compiles f image) same of.compiles in
-      let count = as_many image.code (sites_of first) image.sites compiles.sites.entries in
-      inr (told.0, (image, compiles, served.3 ∙ ap (λ name. Some (map.insert files name (image_bytes image))) same_target, told.1 ∙ ap (λ n. Some (written ++ sites_line n)) count))
-  built_by first accepted s t same_source same_target (Refused line) served told =
-      let here : served.0 ≡ text = let a = served.1 in let b = held in let c = same_source in cc in
-      absurd (not_shown text line first accepted (subst (λ x. MayShow x line) here served.2))
-  built_by first accepted s t same_source same_target NoCommand served told = absurd served
-  built_by first accepted s t same_source same_target NoMemory served told = inl told.0
-  built_by first accepted s t same_source same_target (Missing name) served told =
-      absurd (let a = served.1 in let b = held in let c = same_source in cc)
-  built_by first accepted s t same_source same_target (CannotRead name) served told = absurd (not_both before new.faults calm served.1)
-  built_by first accepted s t same_source same_target (CannotWrite name) served told = absurd (not_both before new.faults calm served.1)
+told : (outcome : Outcome) (old new : SinkView) (status : ℕ) (written : List ℕ) → IsCalm old.faults new.faults → old.written ≡ Some written
+    → Tells outcome old new status → (status ≡ 3) ⊎ IsTold outcome written new status
+told outcome old new status written calm is (run.silent none) = inr (record { status_is = refl; text_is = λ text some. absurd (none-some text (sym none ∙ some)) })
+told outcome old new status written calm is (run.put text some grown) =
+    inr (record { status_is = refl; text_is = λ other e. grown ∙ ap (λ w. text_with w text) is ∙ ap (λ x. Some (written ++ x)) (some_same text other (text_of outcome) some e) })
+told outcome old new status written calm is (run.failed text some rose grown) = absurd (not_both old.faults new.faults calm rose)
+told outcome old new status written calm is (run.wants_memory text some same) = inl refl
 
-  rejected_by : IsRefused text → (s t : List ℕ) → s ≡ source → t ≡ target → (job : Job) → Serves (Build s t) old new job → Told job → Rejected
-  rejected_by refused s t same_source same_target (Done image) served told =
-      let here : served.0 ≡ text = let a = served.1 in let b = held in let c = same_source in cc in
-      let of = subst (λ x. IsImageOf x image) here served.2 in
-      absurd (refused of.first of.accepted)
-  rejected_by refused s t same_source same_target (Refused line) served told =
-      let here : served.0 ≡ text = let a = served.1 in let b = held in let c = same_source in cc in
-      inr (told.0, served.3, (line, subst (λ x. MayShow x line) here served.2, told.1))
-  rejected_by refused s t same_source same_target NoCommand served told = absurd served
-  rejected_by refused s t same_source same_target NoMemory served told = inl told.0
-  rejected_by refused s t same_source same_target (Missing name) served told =
-      absurd (let a = served.1 in let b = held in let c = same_source in cc)
-  rejected_by refused s t same_source same_target (CannotRead name) served told = absurd (not_both before new.faults calm served.1)
-  rejected_by refused s t same_source same_target (CannotWrite name) served told = absurd (not_both before new.faults calm served.1)
+-- ---- what a build comes to over a calm store
 
-  -- a command that these words ask for is this one
-  of_words : (P : Type 0) → (status ≡ 3 → P)
-      → ((s t : List ℕ) → s ≡ source → t ≡ target → (job : Job) → Serves (Build s t) old new job → Told job → P)
-      → (job : Job) → HasCause words old new job → IsTold (status_of job) (text_of job) status (sink_view (Some written) sink_before) sink_new → P
-  of_words P three go job cause told =
-      ⊎_elim
-      (λ put. ⊎_elim
-      (λ none. absurd (none.0 (Build source target) asked))
-      (λ found. of_command found.0 found.1 found.2 put)
-      cause)
-      (λ other. ⊎_elim (λ failed. absurd (not_both sink_before sink_new.faults sink_calm failed.1)) (λ memory. three memory.0) other)
-      told
-    where
-      of_command : (command : Command) → IsCommand words command → Serves command old new job → Told job → P
-      of_command (Build s t) is served put =
-          let same_source : s ≡ source = let a = is.0 in let b = asked.0 in cc in
-          let same_target : t ≡ target = let a = is.0 in let b = asked.0 in cc in
-          go s t same_source same_target job served put
+-- the source is refused, or its image is written, or memory wants
+data Built (files : Files) (new : StoreView) (text target : List ℕ) (outcome : Outcome) : Type 0 where
+  Refuses : IsUnfit text outcome → new.files ≡ Some files → Built files new text target outcome
+  Makes : {output : Output} → IsDone text target (Some output) outcome → new.files ≡ Some (map.insert files output.name output.bytes) → Built files new text target outcome
+  Wants : status_of outcome ≡ 3 → Built files new text target outcome
 
-  pub built : (first : First) → IsAccepted text first → (job : Job) → HasCause words old new job → IsTold (status_of job) (text_of job) status (sink_view (Some written) sink_before) sink_new → Built first
-  built first accepted = of_words (Built first) (λ three. inl three) (built_by first accepted)
+calm_since : (old mid new : ℕ) → old ≤ mid → IsCalm old new → IsCalm mid new
+calm_since old mid new later calm = omega (arith, calm)
 
-  pub rejected : IsRefused text → (job : Job) → HasCause words old new job → IsTold (status_of job) (text_of job) status (sink_view (Some written) sink_before) sink_new → Rejected
-  rejected refused = of_words Rejected (λ three. inl three) (rejected_by refused)
+module _ (files : Files) (name target text : List ℕ) (held : map.get files name ≡ Some text) where
+  same_text : (old : StoreView) (read : List ℕ) → old.files ≡ Some files → IsTextOf old.files name read → read ≡ text
+  same_text old read is of = let there : map.get files name ≡ Some read = subst (λ f. IsTextOf f name read) is of in cc
 
--- a run, with what the store and the sink tell in place
-told_run : (words : List (List ℕ)) (store_old store_new : StoreView) (sink_old sink_new : SinkView) (status : ℕ) (files : Files) (written : List ℕ)
-    → IsRun words store_old store_new sink_old sink_new status → store_old.files ≡ Some files → sink_old.written ≡ Some written
-    → IsRun words (store_view (Some files) store_old.faults) store_new (sink_view (Some written) sink_old.faults) sink_new status
-told_run words store_old store_new sink_old sink_new status files written run is_files is_written =
-    let P : Option Files → Type 0 = λ f. IsRun words (store_view f store_old.faults) store_new sink_old sink_new status in
-    let Q : Option (List ℕ) → Type 0 = λ w. IsRun words (store_view (Some files) store_old.faults) store_new (sink_view w sink_old.faults) sink_new status in
-    subst Q is_written (subst P is_files run)
+  unread : (old new : StoreView) (outcome : Outcome) → old.files ≡ Some files → IsCalm old.faults new.faults
+      → Unread name old new outcome → Built files new text target outcome
+  unread old new outcome is calm run.wants_memory = Wants refl
+  unread old new outcome is calm (run.missing lacks) =
+      let none : map.get files name ≡ None = subst (λ f. IsMissing f name old.faults new.faults) is lacks in
+      absurd (none-some text (sym none ∙ held))
+  unread old new outcome is calm (run.failed rose) = absurd (not_both old.faults new.faults calm rose)
 
-pub builds_accepted : (words : List (List ℕ)) (store_old store_new : StoreView) (sink_old sink_new : SinkView) (status : ℕ)
-    → IsRun words store_old store_new sink_old sink_new status → BuildsAccepted words store_old store_new sink_old sink_new status
-builds_accepted words store_old store_new sink_old sink_new status run = λ files written source target text first honest accepted.
-    let r = told_run words store_old store_new sink_old sink_new status files written run honest.files_told honest.written_told in
-    built words files store_new store_old.faults written sink_old.faults sink_new status source target text honest.asked honest.source_held honest.store_calm honest.sink_calm first accepted r.job r.cause r.told
+  wrote : (old new : StoreView) (output : Output) (done outcome : Outcome) → old.files ≡ Some files → IsCalm old.faults new.faults
+      → IsDone text target (Some output) done → Writes output done old new outcome → Built files new text target outcome
+  wrote old new output done outcome is calm fine (run.written grown) = Makes fine (grown ∙ ap (λ f. files_with f output.name output.bytes) is)
+  wrote old new output done outcome is calm fine (run.failed rose part) = absurd (not_both old.faults new.faults calm rose)
+  wrote old new output done outcome is calm fine (run.wants_memory same) = Wants refl
 
-pub refuses_others : (words : List (List ℕ)) (store_old store_new : StoreView) (sink_old sink_new : SinkView) (status : ℕ)
-    → IsRun words store_old store_new sink_old sink_new status → RefusesOthers words store_old store_new sink_old sink_new status
-refuses_others words store_old store_new sink_old sink_new status run = λ files written source target text honest refused.
-    let r = told_run words store_old store_new sink_old sink_new status files written run honest.files_told honest.written_told in
-    rejected words files store_new store_old.faults written sink_old.faults sink_new status source target text honest.asked honest.source_held honest.store_calm honest.sink_calm refused r.job r.cause r.told
+  -- once the text is read
+  ended : (texts : List (List ℕ)) (old new : StoreView) (outcome : Outcome) → texts ≡ text ∷ [] → old.files ≡ Some files → IsCalm old.faults new.faults
+      → Course (Build name target) [] texts old new outcome → Built files new text target outcome
+  ended texts old new outcome one is calm (run.wants_memory same) = Wants refl
+  ended texts old new outcome one is calm (run.ends fine same) =
+      let done = subst (λ ts. Commands.IsDone (Build name target) ts None outcome) one fine in
+      absurd (none-some _ done.writes)
+  ended texts old new outcome one is calm (run.writes {output = output} {done = done} fine write) =
+      wrote old new output done outcome is calm (subst (λ ts. Commands.IsDone (Build name target) ts (Some output) done) one fine) write
 
--- a run whose status has another name
-pub with_status : (words : List (List ℕ)) (store_old store_new : StoreView) (sink_old sink_new : SinkView) (status other : ℕ)
-    → IsRun words store_old store_new sink_old sink_new status → other ≡ status → IsRun words store_old store_new sink_old sink_new other
-with_status words store_old store_new sink_old sink_new status other run same = subst (IsRun words store_old store_new sink_old sink_new) (sym same) run
+  coursed : (old new : StoreView) (outcome : Outcome) → old.files ≡ Some files → IsCalm old.faults new.faults
+      → Course (Build name target) (inputs_of (Build name target)) [] old new outcome → Built files new text target outcome
+  coursed old new outcome is calm (run.stops why same) = unread old new outcome is calm why
+  coursed old new outcome is calm (run.refuses read of unfit same) =
+      Refuses (subst (λ t. IsUnfit t outcome) (same_text old read is of) unfit) (same ∙ is)
+  coursed old new outcome is calm (run.reads {mid = mid} read of same later rest) =
+      ended (read ∷ []) mid new outcome (ap (λ t. t ∷ []) (same_text old read is of)) (same ∙ is) (calm_since old.faults mid.faults new.faults later calm) rest
+
+-- the words ask for nothing else
+one_command : (words : List (List ℕ)) (name target : List ℕ) (command : Command) → IsCommand words command → IsCommand words (Build name target) → command ≡ Build name target
+one_command words name target (Build s t) is asked = let a = is.0 in let b = asked.0 in cc
+
+-- ---- the two promises
+
+-- what words that ask to build come to
+came : (words : List (List ℕ)) (files : Files) (text target : List ℕ) (asks : AsksToBuild words files text target) (old new : StoreView) (outcome : Outcome)
+    → old.files ≡ Some files → IsCalm old.faults new.faults → Comes words old new outcome → Built files new text target outcome
+came words files text target asks old new outcome told calm (run.nowhere none) = absurd (none (Build asks.name target) asks.asked)
+came words files text target asks old new outcome told calm (run.along command is course) =
+    coursed files asks.name target text asks.held old new outcome told calm
+    (subst (λ c. Course c (inputs_of c) [] old new outcome) (one_command words asks.name target command is asks.asked) course)
+
+module _ (words : List (List ℕ)) (old new : World) (status : ℕ) (files : Files) (written text target : List ℕ)
+    (honest : IsHonest files written old new) (asks : AsksToBuild words files text target) where
+  built_of : (outcome : Outcome) → Comes words old.store new.store outcome → Built files new.store text target outcome
+  built_of outcome = came words files text target asks old.store new.store outcome honest.files_told honest.store_calm
+
+  told_of : (outcome : Outcome) → Tells outcome old.sink new.sink status → (status ≡ 3) ⊎ IsTold outcome written new.sink status
+  told_of outcome = told outcome old.sink new.sink status written honest.sink_calm honest.written_told
+
+  accepts : (source : Source) → IsAccepted text source → (outcome : Outcome) → IsTold outcome written new.sink status → Built files new.store text target outcome
+      → (status ≡ 3) ⊎ ((status ≡ 0) × ((image : Image) × Compiles source image × (new.store.files ≡ Some (map.insert files target (image_bytes image)))
+      × (new.sink.written ≡ Some (written ++ sites_line (length source.sites)))))
+  accepts source accepted outcome is (Refuses unfit same) = absurd (not_shown text unfit.line source accepted unfit.shown)
+  accepts source accepted outcome is (Wants three) = inl (is.status_is ∙ three)
+  accepts source accepted outcome is (Makes {output = output} done grown) =
+      let compiles = subst (λ s. Compiles s done.image) (one_source text done.of.source source done.of.accepted accepted) done.of.compiles in
+      let count = as_many done.image.code source.sites source.treatments done.image.sites compiles.sites.entries in
+      let output_is = done.writes in
+      inr (
+        is.status_is ∙ ap status_of done.is,
+        (
+          done.image,
+          compiles,
+          grown ∙ ap (λ o. Some (map.insert files o.name o.bytes)) (some_output output _ done.writes),
+          is.text_is (sites_line (length done.image.sites)) (ap text_of done.is) ∙ ap (λ n. Some (written ++ sites_line n)) count,
+        ),
+      )
+
+  refuses : IsRefused text → (outcome : Outcome) → IsTold outcome written new.sink status → Built files new.store text target outcome
+      → (status ≡ 3) ⊎ ((status ≡ 1) × (new.store.files ≡ Some files) × ((line : List ℕ) × MayShow text line × (new.sink.written ≡ Some (written ++ line))))
+  refuses refused outcome is (Refuses unfit same) =
+      inr (is.status_is ∙ ap status_of unfit.is, same, (unfit.line, unfit.shown, is.text_is unfit.line (ap text_of unfit.is)))
+  refuses refused outcome is (Wants three) = inl (is.status_is ∙ three)
+  refuses refused outcome is (Makes done grown) = absurd (refused done.of.source done.of.accepted)
+
+pub builds_accepted : (words : List (List ℕ)) (old new : World) (status : ℕ) → IsRun words old new status → BuildsAccepted words old new status
+builds_accepted words old new status r = λ files written text target source honest asks accepted.
+    ⊎_elim (λ three. inl three)
+    (λ is. accepts words old new status files written text target honest asks source accepted r.outcome is (built_of words old new status files written text target honest asks r.outcome r.comes))
+    (told_of words old new status files written text target honest asks r.outcome r.tells)
+
+pub refuses_others : (words : List (List ℕ)) (old new : World) (status : ℕ) → IsRun words old new status → RefusesOthers words old new status
+refuses_others words old new status r = λ files written text target honest asks refused.
+    ⊎_elim (λ three. inl three)
+    (λ is. refuses words old new status files written text target honest asks refused r.outcome is (built_of words old new status files written text target honest asks r.outcome r.comes))
+    (told_of words old new status files written text target honest asks r.outcome r.tells)

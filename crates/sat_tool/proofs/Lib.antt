@@ -1,14 +1,3 @@
-pub mod Compiled
-pub mod Entries
-pub mod Evaluation
-pub mod Expressions
+pub mod Fronts
 pub mod Headline
-pub mod Leads
-pub mod Nesting
-pub mod Operators
-pub mod Refusals
 pub mod Serving
-pub mod Simulation
-pub mod Sizes
-pub mod Storage
-pub mod TokenCounts

@@ -1,4 +1,4 @@
--- The words of the command line, and the lines that are put to the sink.
+-- The words of the command line.
 use Rattle.std.specs.Prelude.{◌≡◌, ◌≢◌, ℕ, List, [], ◌∷◌, codes}
 
 -- what is asked for, with the names of the files

@@ -1,10 +1,12 @@
-pub mod Accepted
+pub mod Build
 pub mod Command
-pub mod Emission
+pub mod Commands
+pub mod Files
+pub mod Gathered
 pub mod Headline
 pub mod Lines
 pub mod Outcomes
-pub mod Refusals
 pub mod Run
-pub mod Sites
+pub mod Statuses
 pub mod Words
+pub mod World

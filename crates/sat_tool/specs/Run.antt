@@ -1,102 +1,79 @@
--- What a run of the program does with a store and a sink.
-use Rattle.std.specs.Prelude.{◌≡◌, ℕ, ◌≤◌, ◌⊎◌, List, length, Option, Some, None}
+-- What a run of the program does, whatever its command: it reads the files that the command names, in order, and
+-- judges each as it comes; it does its job; it makes at most one write, and then at most one put.
+use Rattle.std.specs.Prelude.{◌≡◌, ℕ, ◌≤◌, List, [], ◌∷◌, ◌++◌, Option, Some, None}
 use Rattle.std.specs.FinMap as map
-use Rattle.image_format.specs.declared.image.Image.{Image}
 use Rattle.store_io.specs.Outside.{Files, Rose, IsMissing, WritesPart, files_with, text_with, GrowsByPart}
-use Rattle.sat_tool.specs.Accepted.{IsImageOf}
-use Rattle.sat_tool.specs.Command.{Command, Build, IsCommand, IsNoCommand}
-use Rattle.image_format.specs.ImageBytes.{image_bytes}
-use Rattle.sat_tool.specs.Lines.{sites_line, usage_line, memory_line, missing_line, cannot_read_line, cannot_write_line}
-use Rattle.sat_tool.specs.Refusals.{MayShow}
-
--- what is seen of a store, and of a sink, at a moment
-pub record StoreView : Type 0 where
-  pub files : Option Files
-  pub faults : ℕ
-
-pub record SinkView : Type 0 where
-  pub written : Option (List ℕ)
-  pub faults : ℕ
-
-abbrev pub store_view : Option Files → ℕ → StoreView
-store_view files faults = record { files = files; faults = faults }
-
-abbrev pub sink_view : Option (List ℕ) → ℕ → SinkView
-sink_view written faults = record { written = written; faults = faults }
-
--- what a job comes to before its text is put
-pub data Job : Type 0 where
-  -- the source was compiled and its image written
-  Done : Image → Job
-  -- the source is not accepted, as this line tells
-  Refused : (line : List ℕ) → Job
-  -- the words are no command
-  NoCommand : Job
-  -- want of memory
-  NoMemory : Job
-  -- a file could not be used
-  Missing : (name : List ℕ) → Job
-  CannotRead : (name : List ℕ) → Job
-  CannotWrite : (name : List ℕ) → Job
-
-abbrev pub status_of : Job → ℕ
-status_of (Done image) = 0
-status_of (Refused line) = 1
-status_of NoCommand = 2
-status_of NoMemory = 3
-status_of (Missing name) = 4
-status_of (CannotRead name) = 4
-status_of (CannotWrite name) = 4
-
-abbrev pub text_of : Job → List ℕ
-text_of (Done image) = sites_line (length image.sites)
-text_of (Refused line) = line
-text_of NoCommand = usage_line
-text_of NoMemory = memory_line
-text_of (Missing name) = missing_line name
-text_of (CannotRead name) = cannot_read_line name
-text_of (CannotWrite name) = cannot_write_line name
+use Rattle.sat_tool.specs.declared.outcome.Outcome.{Outcome}
+use Rattle.sat_tool.specs.declared.outcome.Outcome.TheVariants.{NoCommand, NoMemory, Unusable}
+use Rattle.sat_tool.specs.Command.{Command, IsCommand, IsNoCommand}
+use Rattle.sat_tool.specs.Commands.{inputs_of, IsUnfit, IsDone}
+use Rattle.sat_tool.specs.Files.{Input, Output}
+use Rattle.sat_tool.specs.Lines.{missing_line, cannot_read_line, cannot_write_line}
+use Rattle.sat_tool.specs.Statuses.{status_of, text_of, sink_failed}
+use Rattle.sat_tool.specs.World.{StoreView, SinkView, World}
 
 -- The text is what the file of this name holds. Of a store that does not tell its files nothing is claimed.
 abbrev pub IsTextOf : Option Files → List ℕ → List ℕ → Type 0
 IsTextOf None name text = Unit {0}
 IsTextOf (Some told) name text = map.get told name ≡ Some text
 
--- What the command comes to, its cause, and what it leaves in the store. Until the write nothing has changed;
--- of a write that failed the name is as before or holds a prefix of the bytes, and every other name is as
--- before.
-abbrev pub Serves : Command → StoreView → StoreView → Job → Type 0
-Serves (Build source target) old new (Done image) =
-    (text : List ℕ) × IsTextOf old.files source text × IsImageOf text image × (new.files ≡ files_with old.files target (image_bytes image))
-Serves (Build source target) old new (Refused line) =
-    (text : List ℕ) × IsTextOf old.files source text × MayShow text line × (new.files ≡ old.files)
-Serves (Build source target) old new NoCommand = ⊥
-Serves (Build source target) old new NoMemory = new.files ≡ old.files
-Serves (Build source target) old new (Missing name) =
-    (name ≡ source) × IsMissing old.files source old.faults new.faults × (new.files ≡ old.files)
-Serves (Build source target) old new (CannotRead name) =
-    (name ≡ source) × Rose old.faults new.faults × (new.files ≡ old.files)
-Serves (Build source target) old new (CannotWrite name) =
-    (name ≡ target) × Rose old.faults new.faults
-    × ((text : List ℕ) × (image : Image) × IsTextOf old.files source text × IsImageOf text image × WritesPart old.files new.files target (image_bytes image))
+-- a file was not read, and this is why
+pub data Unread (name : List ℕ) (old new : StoreView) : Outcome → Type 0 where
+  wants_memory : Unread name old new NoMemory
+  missing : IsMissing old.files name old.faults new.faults → Unread name old new (Unusable (missing_line name))
+  failed : Rose old.faults new.faults → Unread name old new (Unusable (cannot_read_line name))
 
--- Words that are no command leave the store alone; a command is served.
-abbrev pub HasCause : List (List ℕ) → StoreView → StoreView → Job → Type 0
-HasCause words old new job =
-    (IsNoCommand words × (new ≡ old) × ((job ≡ NoCommand) ⊎ (job ≡ NoMemory)))
-    ⊎ ((command : Command) × IsCommand words command × Serves command old new job)
+-- A file is written, and so the job is done. A write that failed leaves every other name as before, and its own as
+-- before or with a prefix of the bytes.
+pub data Writes (output : Output) (done : Outcome) (old new : StoreView) : Outcome → Type 0 where
+  written : new.files ≡ files_with old.files output.name output.bytes → Writes output done old new done
+  failed : Rose old.faults new.faults → WritesPart old.files new.files output.name output.bytes
+      → Writes output done old new (Unusable (cannot_write_line output.name))
+  wants_memory : new.files ≡ old.files → Writes output done old new NoMemory
 
--- A text is put for a status, and a status is answered. A put that fails makes it 9, and one without memory 3.
-abbrev pub IsTold : ℕ → List ℕ → ℕ → SinkView → SinkView → Type 0
-IsTold status text answer old new =
-    ((answer ≡ status) × (new.written ≡ text_with old.written text))
-    ⊎ ((answer ≡ 9) × Rose old.faults new.faults × GrowsByPart old.written new.written text)
-    ⊎ ((answer ≡ 3) × (new.written ≡ old.written))
+-- The course of a command that still has these files to read, and has read these texts. Until the write nothing
+-- has changed.
+pub data Course (command : Command) : List Input → List (List ℕ) → StoreView → StoreView → Outcome → Type 0 where
+  -- the next file is not read
+  stops : {input : Input} {inputs : List Input} {texts : List (List ℕ)} {old new : StoreView} {outcome : Outcome}
+      → Unread input.name old new outcome → new.files ≡ old.files → Course command (input ∷ inputs) texts old new outcome
+  -- it is read, and refused
+  refuses : {input : Input} {inputs : List Input} {texts : List (List ℕ)} {old new : StoreView} {outcome : Outcome} (text : List ℕ)
+      → IsTextOf old.files input.name text → IsUnfit command (texts ++ text ∷ []) outcome → new.files ≡ old.files
+      → Course command (input ∷ inputs) texts old new outcome
+  -- it is read, and then the others
+  reads : {input : Input} {inputs : List Input} {texts : List (List ℕ)} {old mid new : StoreView} {outcome : Outcome} (text : List ℕ)
+      → IsTextOf old.files input.name text → mid.files ≡ old.files → old.faults ≤ mid.faults
+      → Course command inputs (texts ++ text ∷ []) mid new outcome → Course command (input ∷ inputs) texts old new outcome
+  -- all are read, and memory wants for the job
+  wants_memory : {texts : List (List ℕ)} {old new : StoreView} → new.files ≡ old.files → Course command [] texts old new NoMemory
+  -- the job is done, and no file is to be written
+  ends : {texts : List (List ℕ)} {old new : StoreView} {outcome : Outcome}
+      → IsDone command texts None outcome → new.files ≡ old.files → Course command [] texts old new outcome
+  -- the job is done, and its file is written
+  writes : {texts : List (List ℕ)} {old new : StoreView} {output : Output} {done outcome : Outcome}
+      → IsDone command texts (Some output) done → Writes output done old new outcome → Course command [] texts old new outcome
+
+-- Words that are no command leave the store alone; a command takes its course.
+pub data Comes (words : List (List ℕ)) : StoreView → StoreView → Outcome → Type 0 where
+  nowhere : {store : StoreView} → IsNoCommand words → Comes words store store NoCommand
+  along : {old new : StoreView} {outcome : Outcome} (command : Command) → IsCommand words command
+      → Course command (inputs_of command) [] old new outcome → Comes words old new outcome
+
+-- A text is put, if there is one, and a status is answered.
+pub data Tells (outcome : Outcome) : SinkView → SinkView → ℕ → Type 0 where
+  silent : {sink : SinkView} → text_of outcome ≡ None → Tells outcome sink sink (status_of outcome)
+  put : {old new : SinkView} (text : List ℕ) → text_of outcome ≡ Some text → new.written ≡ text_with old.written text
+      → Tells outcome old new (status_of outcome)
+  failed : {old new : SinkView} (text : List ℕ) → text_of outcome ≡ Some text → Rose old.faults new.faults
+      → GrowsByPart old.written new.written text → Tells outcome old new sink_failed
+  wants_memory : {old new : SinkView} (text : List ℕ) → text_of outcome ≡ Some text → new.written ≡ old.written
+      → Tells outcome old new (status_of NoMemory)
 
 -- a run of the program on these words
-pub record IsRun (words : List (List ℕ)) (store_old store_new : StoreView) (sink_old sink_new : SinkView) (status : ℕ) : Type 0 where
-  pub job : Job
-  pub cause : HasCause words store_old store_new job
-  pub told : IsTold (status_of job) (text_of job) status sink_old sink_new
-  pub store_later : store_old.faults ≤ store_new.faults
-  pub sink_later : sink_old.faults ≤ sink_new.faults
+pub record IsRun (words : List (List ℕ)) (old new : World) (status : ℕ) : Type 0 where
+  pub outcome : Outcome
+  pub comes : Comes words old.store new.store outcome
+  pub tells : Tells outcome old.sink new.sink status
+  pub store_later : old.store.faults ≤ new.store.faults
+  pub sink_later : old.sink.faults ≤ new.sink.faults

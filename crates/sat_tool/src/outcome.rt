@@ -1,62 +1,128 @@
-// What a job comes to: a status, and the text to be put.
+// What a run comes to.
 
 ghost use Rattle.std.specs.Prelude.{◌≡◌, string_bytes, IfOk};
+ghost use Rattle.sat_tool.specs.Lines.{sites_line, missing_line, cannot_read_line, cannot_write_line};
+ghost use Rattle.sat_compile.specs.Telling.{refusal_line};
 
-use crate::line::Line;
 use sat_base::Memory;
-use std::alloc::Global;
+use sat_compile::CompileRefusal;
+use sqlite_items::Items;
+use std::alloc::{AllocError, Global};
 
-/// The exit statuses.
-#[derive(Clone, Copy, Debug, PartialEq, Eq)]
-pub enum Status {
-    /// The job was done.
-    Done,
+/// The bytes of a text that is put, its line feeds included.
+pub type Text = Items<u8>;
+
+/// What a run comes to before its text is put. What a variant holds is that text.
+#[derive(Debug, Drop)]
+pub enum Outcome {
+    /// The job was done. Not every job has a report.
+    Done(Option<Text>),
     /// The source is not accepted.
-    Refused,
+    Refused(Text),
     /// The words are no command.
     NoCommand,
     /// Want of memory.
     NoMemory,
     /// A file could not be used.
-    Unusable,
-    /// The sink failed.
-    SinkFailed,
+    Unusable(Text),
 }
 
-impl Status {
-    ghost use Rattle.sat_tool.specs.Outcomes.{status_code};
+impl Outcome {
+    ghost use Rattle.std.specs.Prelude.{MatchOption, Some, None};
+    ghost use Rattle.sat_tool.specs.Statuses.{status_of, text_of};
 
-    /// The exit status of the process.
-    pub fn code(self) -> u8
-        ensures { result ≡ status_code self }
+    /// The exit status.
+    pub fn status(&self) -> u8
+        ensures { result ≡ status_of self.now }
     {
         match self {
-            Status::Done => 0,
-            Status::Refused => 1,
-            Status::NoCommand => 2,
-            Status::NoMemory => 3,
-            Status::Unusable => 4,
-            Status::SinkFailed => 9,
+            Outcome::Done(_) => 0,
+            Outcome::Refused(_) => 1,
+            Outcome::NoCommand => 2,
+            Outcome::NoMemory => 3,
+            Outcome::Unusable(_) => 4,
+        }
+    }
+
+    /// The text that is put, or none where nothing is.
+    pub fn text(&self) -> Option<&[u8]>
+        ensures { MatchOption result (text_of self.now ≡ None) (λ text. text_of self.now ≡ Some text.now) }
+    {
+        match self {
+            Outcome::Done(None) => None,
+            Outcome::Done(Some(text)) | Outcome::Refused(text) | Outcome::Unusable(text) => {
+                Some(text.as_slice())
+            }
+            Outcome::NoCommand => Some(b"usage: satc build SRC IMG\n"),
+            Outcome::NoMemory => Some(b"out of memory\n"),
         }
     }
 }
 
-/// What a job comes to before its text is put.
-#[derive(Debug, Drop)]
-pub struct Outcome {
-    pub status: Status,
-    pub text: String,
+impl From<Memory> for Outcome {
+    ghost use Rattle.sat_tool.specs.declared.outcome.Outcome.TheVariants as outcomes;
+
+    ghost from_gives = { λ _ outcome. outcome ≡ outcomes.NoMemory };
+
+    fn from(_error: Memory) -> Outcome {
+        Outcome::NoMemory
+    }
 }
 
-impl Outcome {
-    ghost use Rattle.sat_tool.specs.Lines.{line_text};
+impl From<AllocError> for Outcome {
+    ghost use Rattle.sat_tool.specs.declared.outcome.Outcome.TheVariants as outcomes;
 
-    /// An outcome whose text is this line.
-    pub fn new(alloc: Global, status: Status, line: Line<'_>) -> Result<Outcome, Memory>
-        ensures status { IfOk result (λ outcome. outcome.status ≡ status) }
-        ensures text { IfOk result (λ outcome. string_bytes outcome.text ≡ line_text line.entry) }
-    {
-        let text = line.to_string(alloc)?;
-        Ok(Outcome { status, text })
+    ghost from_gives = { λ _ outcome. outcome ≡ outcomes.NoMemory };
+
+    fn from(_error: AllocError) -> Outcome {
+        Outcome::NoMemory
     }
+}
+
+/// The report of a source with so many sites.
+pub fn sites(alloc: Global, count: usize) -> Result<Outcome, AllocError>
+    ensures { IfOk result (λ outcome. outcome ≡ Outcome.Done (Some (sites_line count))) }
+{
+    let line = format!(in alloc; "sites {count}\n")?;
+    Ok(Outcome::Done(Some(text(line))))
+}
+
+/// The store has no file of this name.
+pub fn missing(alloc: Global, name: &str) -> Result<Outcome, AllocError>
+    ensures { IfOk result (λ outcome. outcome ≡ Outcome.Unusable (missing_line name.now)) }
+{
+    let line = format!(in alloc; "missing {name}\n")?;
+    Ok(Outcome::Unusable(text(line)))
+}
+
+/// The store failed to read this file.
+pub fn cannot_read(alloc: Global, name: &str) -> Result<Outcome, AllocError>
+    ensures { IfOk result (λ outcome. outcome ≡ Outcome.Unusable (cannot_read_line name.now)) }
+{
+    let line = format!(in alloc; "cannot read {name}\n")?;
+    Ok(Outcome::Unusable(text(line)))
+}
+
+/// The store failed to write this file.
+pub fn cannot_write(alloc: Global, name: &str) -> Result<Outcome, AllocError>
+    ensures { IfOk result (λ outcome. outcome ≡ Outcome.Unusable (cannot_write_line name.now)) }
+{
+    let line = format!(in alloc; "cannot write {name}\n")?;
+    Ok(Outcome::Unusable(text(line)))
+}
+
+/// The line that tells of a text where and why it is refused.
+pub fn refusal_line(alloc: Global, refusal: CompileRefusal) -> Result<Text, AllocError>
+    ensures { IfOk result (λ text. text ≡ refusal_line refusal) }
+{
+    let at = refusal.place();
+    let words = refusal.words();
+    let line = format!(in alloc; "error {}:{} {words}\n", at.line, at.col)?;
+    Ok(text(line))
+}
+
+fn text(line: String) -> Text
+    ensures { result ≡ string_bytes line }
+{
+    Items::from_vec(line.into_bytes())
 }

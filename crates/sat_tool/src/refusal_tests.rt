@@ -25,6 +25,9 @@ fn lexical_faults_are_told(rt: HostRuntime) -> Result<(), Fail> {
             "error 3:14 bad number\n",
         ),
         ("#define\n", "error 1:1 bad directive\n"),
+        ("#if 1", "error 1:1 bad directive\n"),
+        ("#define A 5\n#define A 6", "error 2:1 bad directive\n"),
+        ("#define A (2147483647 + 1)", "error 1:1 bad directive\n"),
     ] {
         assert!(rt;
             is_refused_with(rt.alloc(), source.as_bytes(), line)?,

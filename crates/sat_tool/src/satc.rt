@@ -1,62 +1,80 @@
 // The top call: words in, a status out.
 
-ghost use Rattle.std.specs.Prelude.{◌≡◌, ◌≤◌, map, string_bytes};
-ghost use Rattle.sat_tool.specs.Run.{store_view, sink_view, IsRun, IsTold};
+ghost use Rattle.std.specs.Prelude.{◌≤◌, [], map, string_bytes};
 ghost use Rattle.sat_tool.specs.Headline.{BuildsAccepted, RefusesOthers};
-ghost use Rattle.sat_tool.specs.Outcomes.{status_code, IsTextWith};
+ghost use Rattle.sat_tool.specs.Outcomes.{InAnyCase};
+ghost use Rattle.sat_tool.specs.Run.{Course, Comes, Tells, IsRun};
+ghost use Rattle.sat_tool.specs.Commands.{inputs_of};
+ghost use Rattle.sat_tool.specs.Words.{asked_by};
+ghost use Rattle.sat_tool.specs.World.{store_view, sink_view, world};
 
-use crate::job::job;
-use crate::outcome::Status;
-use sat_base::Memory;
+use crate::build::build;
+use crate::outcome::Outcome;
+use crate::words::{Command, command_of};
 use std::alloc::Global;
 use store_io::{PutFail, Sink, Store};
 
-/// The line for want of memory, which is put without taking any.
-const OUT_OF_MEMORY: &str = "out of memory\n";
+/// The status where a put failed, whatever the run came to.
+const SINK_FAILED: u8 = 9;
 
-/// Does what the words ask for, puts its text to the sink, and answers the exit status: 0 done, 1 the source
-/// is not accepted, 2 the words are no command, 3 want of memory, 4 a file could not be used, 9 the sink
+/// Does what the words ask for, puts its text to the sink, if it has one, and answers the exit status: 0 done, 1 the
+/// source is not accepted, 2 the words are no command, 3 want of memory, 4 a file could not be used, 9 the sink
 /// failed. Until the one write nothing has changed in the store.
 pub fn satc<S: Store, K: Sink>(alloc: Global, words: &[String], store: &mut S, out: &mut K) -> u8
-    // Whatever the store and the sink do, each status has its cause, and each text is that of its job.
+    // Whatever the store and the sink do, each status has its cause, and each text is that of its outcome.
     ensures run { IsRun (map string_bytes words.now)
-        (store_view (S.files store.old) (S.faults store.old)) (store_view (S.files store.new) (S.faults store.new))
-        (sink_view (K.written out.old) (K.faults out.old)) (sink_view (K.written out.new) (K.faults out.new)) result }
+        (world (S.files store.old) (S.faults store.old) (K.written out.old) (K.faults out.old))
+        (world (S.files store.new) (S.faults store.new) (K.written out.new) (K.faults out.new)) result }
 
     // Where they tell what they hold and count no fault, an accepted source is built, and any other refused.
     ensures built { BuildsAccepted (map string_bytes words.now)
-        (store_view (S.files store.old) (S.faults store.old)) (store_view (S.files store.new) (S.faults store.new))
-        (sink_view (K.written out.old) (K.faults out.old)) (sink_view (K.written out.new) (K.faults out.new)) result }
+        (world (S.files store.old) (S.faults store.old) (K.written out.old) (K.faults out.old))
+        (world (S.files store.new) (S.faults store.new) (K.written out.new) (K.faults out.new)) result }
     ensures refused { RefusesOthers (map string_bytes words.now)
-        (store_view (S.files store.old) (S.faults store.old)) (store_view (S.files store.new) (S.faults store.new))
-        (sink_view (K.written out.old) (K.faults out.old)) (sink_view (K.written out.new) (K.faults out.new)) result }
+        (world (S.files store.old) (S.faults store.old) (K.written out.old) (K.faults out.old))
+        (world (S.files store.new) (S.faults store.new) (K.written out.new) (K.faults out.new)) result }
 {
-    let status = answer(alloc, words, store, out);
-    status.code()
+    let outcome = outcome_of(alloc, words, store);
+    tell(alloc, &outcome, out)
 }
 
-// Does the job, and tells what it came to.
-fn answer<S: Store, K: Sink>(alloc: Global, words: &[String], store: &mut S, out: &mut K) -> Status
-    ensures run { IsRun (map string_bytes words.now)
-        (store_view (S.files store.old) (S.faults store.old)) (store_view (S.files store.new) (S.faults store.new))
-        (sink_view (K.written out.old) (K.faults out.old)) (sink_view (K.written out.new) (K.faults out.new)) (status_code result) }
+// What the words come to.
+fn outcome_of<S: Store>(alloc: Global, words: &[String], store: &mut S) -> Outcome
+    ensures comes { Comes (map string_bytes words.now)
+        (store_view (S.files store.old) (S.faults store.old)) (store_view (S.files store.new) (S.faults store.new)) result }
+    ensures later { S.faults store.old ≤ S.faults store.new }
 {
-    match job(alloc, words, store) {
-        Ok(outcome) => tell(alloc, outcome.status, outcome.text.as_str(), out),
-        Err(Memory) => tell(alloc, Status::NoMemory, OUT_OF_MEMORY, out),
+    let Some(command) = command_of(words) else {
+        return Outcome::NoCommand;
+    };
+    match serve(alloc, store, command) {
+        Ok(outcome) => outcome,
+        Err(outcome) => outcome,
     }
 }
 
-// Puts a text, and answers the status, or that of a put that failed.
-fn tell<K: Sink>(alloc: Global, status: Status, text: &str, out: &mut K) -> Status
-    requires { IsTextWith status text.now }
-    ensures told { IsTold (status_code status) text.now (status_code result)
-        (sink_view (K.written out.old) (K.faults out.old)) (sink_view (K.written out.new) (K.faults out.new)) }
+// Does what a command asks for.
+fn serve<S: Store>(alloc: Global, store: &mut S, command: Command<'_>) -> Result<Outcome, Outcome>
+    ensures course { InAnyCase result (Course (asked_by command.entry) (inputs_of (asked_by command.entry)) []
+        (store_view (S.files store.old) (S.faults store.old)) (store_view (S.files store.new) (S.faults store.new))) }
+    ensures later { S.faults store.old ≤ S.faults store.new }
+{
+    match command {
+        Command::Build { source, image } => build(alloc, store, source, image),
+    }
+}
+
+// Puts the text of an outcome, if it has one, and answers the status.
+fn tell<K: Sink>(alloc: Global, outcome: &Outcome, out: &mut K) -> u8
+    ensures told { Tells outcome.now (sink_view (K.written out.old) (K.faults out.old)) (sink_view (K.written out.new) (K.faults out.new)) result }
     ensures later { K.faults out.old ≤ K.faults out.new }
 {
-    match out.put(alloc, text.as_bytes()) {
-        Ok(()) => status,
-        Err(PutFail::Failed) => Status::SinkFailed,
-        Err(PutFail::Memory) => Status::NoMemory,
+    let Some(text) = outcome.text() else {
+        return outcome.status();
+    };
+    match out.put(alloc, text) {
+        Ok(()) => outcome.status(),
+        Err(PutFail::Failed) => SINK_FAILED,
+        Err(PutFail::Memory) => Outcome::NoMemory.status(),
     }
 }

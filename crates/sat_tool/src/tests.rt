@@ -1,5 +1,6 @@
 // Whole runs of the program over a store and a sink in memory.
 
+use crate::gathered::{NoWords, start};
 use crate::satc::satc;
 use sqlite_items::Items;
 use std::alloc::Global;
@@ -69,6 +70,19 @@ fn builds_and_refuses(rt: HostRuntime) -> Result<(), Fail> {
         assert_eq!(rt; answer, status, "{source:?}");
         assert_eq!(rt; out.bytes(), text.as_bytes(), "{source:?}");
         assert_eq!(rt; store.file("a.img").is_some(), status == 0, "{source:?}");
+    }
+    Ok(())
+}
+
+// Words that are no text are taken as no words; without memory for them nothing is put.
+#[test]
+fn words_that_cannot_be_gathered(rt: HostRuntime) -> Result<(), Fail> {
+    let alloc = rt.alloc();
+    for (why, status, text) in [(NoWords::NoText, 2, USAGE), (NoWords::Memory, 3, "")] {
+        let mut store = CalmStore::new(alloc, &[])?;
+        let mut out = CalmSink::new(alloc);
+        assert_eq!(rt; start(alloc, Err(why), &mut store, &mut out), status);
+        assert_eq!(rt; out.bytes(), text.as_bytes());
     }
     Ok(())
 }

@@ -1,0 +1,13 @@
+pub mod Accepted
+pub mod Compiled
+pub mod Entries
+pub mod Evaluation
+pub mod Expressions
+pub mod Leads
+pub mod Nesting
+pub mod Operators
+pub mod Readable
+pub mod Simulation
+pub mod Sizes
+pub mod Storage
+pub mod TokenCounts

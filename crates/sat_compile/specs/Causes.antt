@@ -1,0 +1,31 @@
+-- Why a text is refused.
+use Rattle.std.specs.Prelude.{◌≡◌, ◌≢◌, ◌≤◌, ◌<◌, ℕ, List, length, Some}
+use Rattle.sat_base.specs.declared.limits.TheConstants.{SOURCE_BYTES}
+use Rattle.c_lexer.specs.declared.token.Tokens.{Tokens}
+use Rattle.c_lexer.specs.Text.{first_lexical_fault}
+use Rattle.c_tree.specs.declared.program.Program.{Program}
+use Rattle.c_reader.specs.Programs.{IsSyntaxFault, IsTooDeep}
+use Rattle.first_form.specs.declared.first.First.{First}
+use Rattle.first_form.specs.Form.{IsFirst}
+use Rattle.sat_compile.specs.declared.refusal.CompileRefusal.{CompileRefusal}
+use Rattle.sat_compile.specs.declared.refusal.CompileRefusal.TheVariants.{TooLong, Lex, Syntax, TooDeep, NotYet, Memory}
+use Rattle.sat_compile.specs.Accepted.{HasTokens, HasTree}
+use Rattle.sat_compile.specs.Telling.{lexical_fault, refusal_line}
+
+-- The text is too long; or else it breaks a lexical rule, here first; or else its tokens spell no program, and
+-- none goes on with this token; or each program that goes on with this one is too deep; or the program that they
+-- spell has not the first form. Memory may want at any time.
+abbrev pub IsCause : List ℕ → CompileRefusal → Type 0
+IsCause text TooLong = SOURCE_BYTES < length text
+IsCause text (Lex kind at) = (length text ≤ SOURCE_BYTES) × (first_lexical_fault text ≡ Some (lexical_fault kind at))
+IsCause text (Syntax tok at) = (tokens : Tokens) × HasTokens text tokens × IsSyntaxFault tokens tok at
+IsCause text (TooDeep tok at) = (tokens : Tokens) × HasTokens text tokens × IsTooDeep tokens tok at
+IsCause text NotYet = (program : Program) × HasTree text program × ((first : First) → IsFirst program first → ⊥)
+IsCause text Memory = Unit {0}
+
+-- the line tells of the text why it is refused
+pub record MayShow (text line : List ℕ) : Type 0 where
+  pub refusal : CompileRefusal
+  pub other : refusal ≢ Memory
+  pub cause : IsCause text refusal
+  pub told : line ≡ refusal_line refusal

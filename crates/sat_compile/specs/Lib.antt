@@ -1,0 +1,9 @@
+pub mod Accepted
+pub mod Causes
+pub mod Emission
+pub mod FirstSource
+pub mod Laws
+pub mod Promise
+pub mod Source
+pub mod Telling
+pub mod Templates
