@@ -21,6 +21,3 @@ pub use cutting_laws::{
 pub use laws::{values_of_definitions, values_of_sums};
 pub use lexer::tokens;
 pub use token::{LexRefusal, Token, TokenKind, Tokens};
-
-#[cfg(test)]
-mod tests;

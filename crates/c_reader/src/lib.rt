@@ -19,6 +19,3 @@ pub mod symbol;
 pub use laws::one_tree;
 pub use program::read;
 pub use refusal::ReadRefusal;
-
-#[cfg(test)]
-mod tests;

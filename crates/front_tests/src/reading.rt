@@ -1,5 +1,5 @@
-use super::*;
 use c_lexer::tokens;
+use c_reader::{ReadRefusal, read};
 use c_tree::Program;
 use sat_base::limits::SOURCE_BYTES;
 use std::alloc::Global;

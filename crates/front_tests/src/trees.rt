@@ -1,4 +1,6 @@
-use super::*;
+use c_tree::{
+    Arg, AssignMark, BinaryMark, Block, Call, Expr, ExprKind, Item, Place, Simple, Stmt, UnaryMark,
+};
 use sat_base::{At, Memory, Name, Named, Pos, Width};
 use sqlite_items::Items;
 use std::alloc::Global;

@@ -1,4 +1,4 @@
-use super::*;
+use c_lexer::{LexRefusal, TokenKind, Tokens, tokens};
 use sat_base::limits::{SOURCE_BYTES, TOKENS};
 use std::alloc::{AllocError, Global};
 use std::test::Fail;

@@ -1,4 +1,4 @@
-use crate::tests::{answer_in_body, answer_to};
+use crate::reading::{answer_in_body, answer_to};
 use std::alloc::{AllocError, Global};
 use std::test::Fail;
 

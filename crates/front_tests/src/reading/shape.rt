@@ -1,4 +1,4 @@
-use crate::tests::read_text;
+use crate::reading::read_text;
 use c_tree::{Arg, BinaryMark, Block, Expr, ExprKind, Init, Item, Program, Stmt, UnaryMark};
 use std::alloc::{AllocError, Global};
 use std::test::Fail;

@@ -1,5 +1,5 @@
-use super::*;
 use c_tree::{Arg, Block, Call, Expr, ExprKind, Function, Item, Param, Program, Simple, Stmt};
+use first_form::{FirstExpr, first_of};
 use sat_base::{At, Memory, Name, Named, Pos, Width};
 use sqlite_items::Items;
 use std::alloc::{AllocError, Global};
