@@ -21,8 +21,9 @@ use Rattle.c_lexer.specs.Judging.{IsBegun, Follows, piece_in}
 use Rattle.c_lexer.specs.Lexeme.{is_hash, lexeme_of}
 use Rattle.c_lexer.specs.Names.{predefined}
 use Rattle.c_lexer.specs.Number.{number_value}
-use Rattle.c_lexer.specs.Text.{Piece, piece_bytes, piece_at, pieces_from, is_token, token_count, on_line_after, token_on_line, names_after, names_defined, token_kind, token_at, token_of, fault_by, fault_at, too_many, tokens_after, fault_after, tokens_of, first_lexical_fault, IsCut}
+use Rattle.c_lexer.specs.Text.{Piece, piece_bytes, piece_at, pieces_from, is_token, token_count, on_line_after, token_on_line, names_after, names_defined, token_kind, token_at, token_of, fault_by, fault_at, too_many, tokens_after, fault_after, tokens_of, first_lexical_fault, pieces_of, AreTokens, IsCut}
 use Rattle.c_lexer.specs.Views.{names_of}
+use Rattle.c_lexer.proofs.ByCases.{tokens_by_cases}
 use Rattle.c_lexer.proofs.Lines.{lexeme_pos}
 
 -- ---- the number of pieces does not matter where it is large enough
@@ -187,6 +188,7 @@ cut_whole text held l at pos answer same reached over place copied list end =
     let all = reached_end text l at reached over in
     record {
       faultless = all.0;
+      by_cases = subst (AreTokens predefined (pieces_of text)) (sym (list ∙ all.1)) (tokens_by_cases text all.0);
       text = copied;
       list = list ∙ all.1;
       end = end ∙ place ∙ ap (λ (t : List ℕ). position_after (take at t)) same ∙ ap position_after all.2;

@@ -1,3 +1,4 @@
+pub mod ByCases
 pub mod Closings
 pub mod Comments
 pub mod Cutting
@@ -12,8 +13,12 @@ pub mod Lines
 pub mod Longest
 pub mod Marks
 pub mod Numerals
+pub mod NumberValues
+pub mod Obeyed
+pub mod OnlyCutting
 pub mod Operators
 pub mod Pieces
+pub mod Places
 pub mod Spans
 pub mod SumSteps
 pub mod SumsRead

@@ -27,7 +27,7 @@ kind_open Hash e = cc
 kind_open Other e = cc
 
 -- a `/*` without its `*/` reaches to the end of the text
-open_whole : (rest : List ℕ) → 0 < length rest → kind_of rest ≡ OpenComment → IsOpenComment rest
+pub open_whole : (rest : List ℕ) → 0 < length rest → kind_of rest ≡ OpenComment → IsOpenComment rest
 open_whole rest some unended = by (closing_len o.tail) refl where
   is : IsOpenComment (take (lexeme_of rest).len rest)
   is = subst (λ (kind : Kind). IsPiece kind (take (lexeme_of rest).len rest)) unended (fronts_are_longest rest some).piece

@@ -15,7 +15,7 @@ use Rattle.c_lexer.proofs.Judged.{kind_hash}
 use Rattle.c_lexer.proofs.Longest.{byte_len, fronts_are_longest}
 
 -- the bytes of the first piece, and those after them
-split : (rest : List ℕ) → piece_bytes rest ++ drop (length (piece_bytes rest)) rest ≡ rest
+pub split : (rest : List ℕ) → piece_bytes rest ++ drop (length (piece_bytes rest)) rest ≡ rest
 split rest = ap (λ (xs : List ℕ). xs ++ drop (length (piece_bytes rest)) rest) (bytes_are rest) ∙ take-append-drop (length (piece_bytes rest)) rest
 
 make_rest : (n : ℕ) (before rest : List ℕ) → length rest ≤ n → concat (map (λ (p : Piece). p.bytes) (pieces_from n before rest)) ≡ rest
@@ -49,7 +49,7 @@ pub pieces_follow : PiecesFollow
 pieces_follow text k d inside = follow (length text) [] text k d inside
 
 -- a `#` is a piece of one byte
-hash_len : (rest : List ℕ) → IsLongest rest (lexeme_of rest) → is_hash (lexeme_of rest).kind ≡ true → (lexeme_of rest).len ≡ 1
+pub hash_len : (rest : List ℕ) → IsLongest rest (lexeme_of rest) → is_hash (lexeme_of rest).kind ≡ true → (lexeme_of rest).len ≡ 1
 hash_len rest front hash =
     let piece = subst (λ (kind : Kind). IsPiece kind (take (lexeme_of rest).len rest)) (kind_hash (lexeme_of rest).kind hash) front.piece in
     sym (length-take-le (lexeme_of rest).len rest front.within) ∙ byte_len is_number_sign (take (lexeme_of rest).len rest) piece

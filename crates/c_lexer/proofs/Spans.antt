@@ -1,7 +1,7 @@
 -- The tokens of a text: no more than the limit, each in the text and after those before it.
-use Rattle.std.proofs.Common.{◌≡◌, ℕ, zero, suc, ◌+◌, ◌≤◌, ◌<◌, Bool, cond, ltb, List, [], ◌∷◌, ◌++◌, length, drop, ℤ, Option, Some, None, option_map, refl, sym, ap, subst, ◌∙◌, inl, inr, arith}
+use Rattle.std.proofs.Common.{◌≡◌, ℕ, zero, suc, ◌+◌, ◌≤◌, ◌<◌, Bool, cond, ltb, List, [], ◌∷◌, ◌++◌, length, drop, ℤ, Option, Some, None, option_map, sym, ap, subst, ◌∙◌, inl, inr, arith}
 use Rattle.std.specs.List.{All, AllPairs}
-use Rattle.std.specs.Option.{option_to_list, option_map_or, is_some}
+use Rattle.std.specs.Option.{option_to_list, is_some}
 use Rattle.std.proofs.lemmas.Bool.{cases_Bool, cond-false, ltb-true}
 use Rattle.std.proofs.lemmas.List.{length-take, length-drop, length-append}
 use Rattle.std.proofs.lemmas.List.Elements.{All-nil, All-cons, All-weaker}
@@ -12,15 +12,15 @@ use Rattle.sat_base.specs.declared.position.Pos.{Pos}
 use Rattle.sat_base.specs.Position.{position_after}
 use Rattle.c_lexer.specs.declared.lexeme.Kind.{Kind}
 use Rattle.c_lexer.specs.declared.lexeme.Kind.TheVariants.{White, Comment, OpenComment, Word, Number, Mark, Hash, Other}
-use Rattle.c_lexer.specs.declared.token.LexRefusal.{LexRefusal}
 use Rattle.c_lexer.specs.declared.token.LexRefusal.TheVariants as refusals
 use Rattle.c_lexer.specs.declared.token.Token.{Token}
 use Rattle.c_lexer.specs.declared.token.TokenKind.{TokenKind}
 use Rattle.c_lexer.specs.Directive.{line_bytes}
 use Rattle.c_lexer.specs.Lexeme.{is_hash, lexeme_of}
 use Rattle.c_lexer.specs.Number.{number_value}
-use Rattle.c_lexer.specs.Spans.{LiesIn, Precedes}
+use Rattle.c_lexer.specs.Spans.{LiesIn, HasBytes, Precedes}
 use Rattle.c_lexer.specs.Text.{Piece, piece_bytes, piece_at, pieces_from, pieces_of, is_token, token_count, token_on_line, names_defined, token_kind, token_of, fault_by, fault_at, too_many, tokens_after, fault_after, tokens_of, first_lexical_fault}
+use Rattle.c_lexer.proofs.ByCases.{faultless}
 use Rattle.c_lexer.proofs.Cutting.{bytes_pos, count_more, token_len}
 
 -- ---- how many
@@ -49,11 +49,6 @@ room names used count p most none = by p.kind none where
   by Hash e = omega (arith, most)
   by Other e = omega (arith, most)
 
--- no fault, and none after it
-faultless : (first rest : Option LexRefusal) → option_map_or (λ fault. Some fault) first rest ≡ None → (first ≡ None) × (rest ≡ None)
-faultless None rest e = (refl, e)
-faultless (Some fault) rest e = absurd (none-some fault (sym e))
-
 few_after : (earlier ps : List Piece) → fault_after earlier ps ≡ None → token_count earlier ≤ TOKENS → token_count earlier + length (tokens_after earlier ps) ≤ TOKENS
 unfolding fault_after tokens_after
 few_after earlier [] none few = omega (arith, few)
@@ -73,6 +68,7 @@ few_after earlier (p ∷ ps) none few =
 record Stands (text : List ℕ) (from : ℕ) (t : Token) : Type 0 where
   pub after : from ≤ t.start
   pub lies : LiesIn text t
+  pub some : HasBytes t
 
 -- such tokens, one after the other
 record AreSpread (text : List ℕ) (from : ℕ) (ts : List Token) : Type 0 where
@@ -80,14 +76,14 @@ record AreSpread (text : List ℕ) (from : ℕ) (ts : List Token) : Type 0 where
   pub apart : AllPairs Precedes ts
 
 later : (text : List ℕ) (from to : ℕ) (ts : List Token) → from ≤ to → All (Stands text to) ts → All (Stands text from) ts
-later text from to ts less = All-weaker (Stands text to) (Stands text from) (λ t s. record { after = omega (arith, less, s.after); lies = s.lies }) ts
+later text from to ts less = All-weaker (Stands text to) (Stands text from) (λ t s. record { after = omega (arith, less, s.after); lies = s.lies; some = s.some }) ts
 
 -- a piece is a token before the others, or none
 spread_more : (text : List ℕ) (p : Piece) (o : Option TokenKind) (ts : List Token) → 1 ≤ length p.bytes → length p.before + length p.bytes ≤ length text → AreSpread text (length p.before + length p.bytes) ts
     → AreSpread text (length p.before) (option_to_list (option_map (token_of p) o) ++ ts)
 spread_more text p None ts some fits spread = record { stand = later text (length p.before) (length p.before + length p.bytes) ts (omega arith) spread.stand; apart = spread.apart }
 spread_more text p (Some kind) ts some fits spread = record {
-  stand = All-cons (Stands text (length p.before)) (token_of p kind) ts (record { after = omega arith; lies = record { some = some; within = fits } }) (later text (length p.before) (length p.before + length p.bytes) ts (omega arith) spread.stand);
+  stand = All-cons (Stands text (length p.before)) (token_of p kind) ts (record { after = omega arith; lies = record { within = fits }; some = some }) (later text (length p.before) (length p.before + length p.bytes) ts (omega arith) spread.stand);
   apart = AllPairs-cons Precedes (token_of p kind) ts (All-weaker (Stands text (length p.before + length p.bytes)) (Precedes (token_of p kind)) (λ t s. s.after) ts spread.stand) spread.apart;
 }
 
@@ -124,6 +120,9 @@ all_spread text = spread text (length text) [] [] text (omega arith)
 pub list_within : (text : List ℕ) (ts : List Token) → ts ≡ tokens_of text → All (LiesIn text) ts
 list_within text ts is =
     subst (All (LiesIn text)) (sym is) (All-weaker (Stands text 0) (LiesIn text) (λ t s. s.lies) (tokens_of text) (all_spread text).stand)
+
+pub list_filled : (text : List ℕ) (ts : List Token) → ts ≡ tokens_of text → All HasBytes ts
+list_filled text ts is = subst (All HasBytes) (sym is) (All-weaker (Stands text 0) HasBytes (λ t s. s.some) (tokens_of text) (all_spread text).stand)
 
 pub list_ordered : (text : List ℕ) (ts : List Token) → ts ≡ tokens_of text → AllPairs Precedes ts
 list_ordered text ts is = subst (AllPairs Precedes) (sym is) (all_spread text).apart

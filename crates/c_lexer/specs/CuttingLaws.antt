@@ -1,7 +1,8 @@
 -- What follows from the definitions of texts, pieces and words alone.
-use Rattle.std.specs.Prelude.{◌≡◌, ◌↔◌, ◌⊎◌, ℕ, ◌<◌, IsTrue, if◌then◌else◌, List, [], ◌∷◌, length, take, drop, slice_index, slice_index_or, map}
+use Rattle.std.specs.Prelude.{◌≡◌, ◌≢◌, ◌↔◌, ◌⊎◌, ℕ, ◌+◌, ◌≤◌, ◌<◌, true, false, IsTrue, if◌then◌else◌, List, [], ◌∷◌, length, take, drop, slice_index, slice_index_or, map, sum_by}
 use Rattle.std.specs.List.{All, concat}
 use Rattle.c_lexer.specs.declared.lexeme.Kind.{Kind}
+use Rattle.c_lexer.specs.declared.lexeme.Kind.TheVariants.{OpenComment, Hash}
 use Rattle.c_lexer.specs.declared.lexeme.Lexeme.{Lexeme}
 use Rattle.c_lexer.specs.Directive.{line_pieces}
 use Rattle.c_lexer.specs.Lexeme.{is_hash, lexeme_of}
@@ -45,6 +46,45 @@ IsLineOf rest (p ∷ ps) =
 -- the pieces of a line of a directive are the longest
 abbrev pub LinesAreLongest : Type 0
 LinesAreLongest = (rest : List ℕ) → IsLineOf rest (line_pieces (length rest) rest)
+
+-- ---- the only cutting
+
+-- at the front of the rest of a line stand these pieces, each the longest at its place, and none is a line feed or a
+-- `/*` without its `*/`
+abbrev pub StandInLine : List ℕ → List (Kind × List ℕ) → Type 0
+StandInLine rest [] = Unit {0}
+StandInLine rest (p ∷ ps) =
+    (p.1 ≢ 10 ∷ []) × (p.0 ≢ OpenComment) × IsLongest rest (record { kind = p.0; len = length p.1 }) × (p.1 ≡ take (length p.1) rest) × StandInLine (drop (length p.1) rest) ps
+
+abbrev pub bytes_in : List (Kind × List ℕ) → ℕ
+bytes_in pieces = sum_by (λ p. length p.1) pieces
+
+-- so many bytes at the front of the rest of a text are a directive, as long as it can be: a `#`, and pieces that
+-- stand in its line
+pub record IsLongestDirective (rest : List ℕ) (len : ℕ) : Type 0 where
+  pub sign : IsPiece Hash (take 1 rest)
+  pub pieces : List (Kind × List ℕ)
+  pub line : StandInLine (drop 1 rest) pieces
+  pub bytes : len ≡ 1 + bytes_in pieces
+  pub longest : (more : List (Kind × List ℕ)) → StandInLine (drop 1 rest) more → bytes_in more ≤ bytes_in pieces
+
+-- the piece stands at the front of the rest of a text, and is as long as it can be there
+pub record IsFirstPiece (rest : List ℕ) (piece : Kind × List ℕ) : Type 0 where
+  pub front : piece.1 ≡ take (length piece.1) rest
+  pub directive : is_hash piece.0 ≡ true → IsLongestDirective rest (length piece.1)
+  pub other : is_hash piece.0 ≡ false → IsLongest rest (record { kind = piece.0; len = length piece.1 })
+
+-- the rest of a text is cut into these pieces, each as long as it can be
+abbrev pub IsCutting : List ℕ → List (Kind × List ℕ) → Type 0
+IsCutting rest [] = rest ≡ []
+IsCutting rest (p ∷ ps) = IsFirstPiece rest p × IsCutting (drop (length p.1) rest) ps
+
+abbrev pub cutting_of : List ℕ → List (Kind × List ℕ)
+cutting_of text = map (λ p. (p.kind, p.bytes)) (pieces_of text)
+
+-- the pieces of a text are such a cutting, and there is no other
+abbrev pub IsOnlyCutting : Type 0
+IsOnlyCutting = (text : List ℕ) → IsCutting text (cutting_of text) × ((cutting : List (Kind × List ℕ)) → IsCutting text cutting → cutting ≡ cutting_of text)
 
 -- no bytes are pieces of two kinds
 abbrev pub KindsAreApart : Type 0

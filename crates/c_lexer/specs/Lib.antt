@@ -6,7 +6,9 @@ pub mod Judging
 pub mod Lexeme
 pub mod Names
 pub mod Number
+pub mod Obeyed
 pub mod Piece
+pub mod PlainLaws
 pub mod Spans
 pub mod Sum
 pub mod Text

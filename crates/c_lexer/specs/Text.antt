@@ -1,6 +1,6 @@
 -- The tokens of a text. A text is cut into pieces, whose concatenation is the text; each of them is the longest
 -- at its place. Each piece is then judged by itself, after the pieces before it.
-use Rattle.std.specs.Prelude.{◌≡◌, ℕ, zero, suc, ◌+◌, nat_lt, ◌==◌, Bool, true, false, not, ◌&&◌, ◌||◌, if◌then◌else◌, ℤ, List, [], ◌∷◌, ◌++◌, length, take, drop, fold, count_by, Option, Some, None}
+use Rattle.std.specs.Prelude.{◌≡◌, ℕ, zero, suc, ◌+◌, nat_lt, ◌==◌, Bool, true, false, IsTrue, not, ◌&&◌, ◌||◌, if◌then◌else◌, ℤ, List, [], ◌∷◌, ◌++◌, length, take, drop, fold, count_by, Option, Some, None}
 use Rattle.std.specs.List.{list_any}
 use Rattle.std.specs.Option.{option_map, option_map_or, option_to_list, unwrap_or, is_some}
 use Rattle.sat_base.specs.Position.{position_after}
@@ -14,11 +14,12 @@ use Rattle.c_lexer.specs.declared.token.Token.{Token}
 use Rattle.c_lexer.specs.declared.token.TokenKind.{TokenKind}
 use Rattle.c_lexer.specs.declared.token.TokenKind.TheVariants as tokens
 use Rattle.c_lexer.specs.declared.token.Tokens.{Tokens}
-use Rattle.c_lexer.specs.Directive.{line_parts, line_bytes, after_directive}
+use Rattle.c_lexer.specs.Directive.{is_blank, line_parts, line_bytes, after_directive}
 use Rattle.c_lexer.specs.Expression.{Part}
 use Rattle.c_lexer.specs.Lexeme.{is_hash, lexeme_of}
 use Rattle.c_lexer.specs.Names.{predefined, is_reserved, value_named}
 use Rattle.c_lexer.specs.Number.{number_value}
+use Rattle.c_lexer.specs.Obeyed.{IsObeyed}
 
 -- ---- the cutting
 
@@ -148,11 +149,22 @@ tokens_of text = tokens_after [] (pieces_of text)
 abbrev pub first_lexical_fault : List ℕ → Option LexRefusal
 first_lexical_fault text = fault_after [] (pieces_of text)
 
+-- ---- the tokens by cases
+
+-- after pieces with these definitions, these pieces are these tokens
+pub data AreTokens : List (List ℕ × ℤ) → List Piece → List Token → Type 0 where
+  Nothing : {names : List (List ℕ × ℤ)} → AreTokens names [] []
+  Blank : {names : List (List ℕ × ℤ)} {p : Piece} {ps : List Piece} {ts : List Token} → IsTrue (is_blank p.kind) → AreTokens names ps ts → AreTokens names (p ∷ ps) ts
+  Directive : {names after : List (List ℕ × ℤ)} {p : Piece} {ps : List Piece} {ts : List Token} → p.kind ≡ Hash → IsObeyed names p.parts after → AreTokens after ps ts → AreTokens names (p ∷ ps) ts
+  Taken : {names : List (List ℕ × ℤ)} {p : Piece} {kind : TokenKind} {ps : List Piece} {ts : List Token} → token_kind names p.bytes p.kind ≡ Some kind → AreTokens names ps ts
+      → AreTokens names (p ∷ ps) (token_of p kind ∷ ts)
+
 -- ---- the answer
 
--- a text that breaks no rule, with its tokens
+-- a text that breaks no rule, with its tokens, whose definitions are those that its directives spell
 pub record IsCut (source : List ℕ) (answer : Tokens) : Type 0 where
   pub faultless : first_lexical_fault source ≡ None
+  pub by_cases : AreTokens predefined (pieces_of source) answer.list
   pub text : answer.text ≡ source
   pub list : answer.list ≡ tokens_of source
   pub end : answer.end ≡ position_after source

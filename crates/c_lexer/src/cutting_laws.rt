@@ -1,6 +1,6 @@
 // What follows from the definitions of texts, pieces and words alone.
 
-ghost use Rattle.c_lexer.specs.CuttingLaws.{PiecesMakeTheText, PiecesFollow, FrontsAreLongest, PiecesAreLongest, LinesAreLongest, KindsAreApart, OperatorsAreNamed};
+ghost use Rattle.c_lexer.specs.CuttingLaws.{PiecesMakeTheText, PiecesFollow, FrontsAreLongest, PiecesAreLongest, LinesAreLongest, IsOnlyCutting, KindsAreApart, OperatorsAreNamed};
 
 /// The pieces of a text, one after the other, are the text.
 pub fn pieces_make_the_text()
@@ -25,6 +25,12 @@ pub fn pieces_are_longest()
 /// Each piece of the line of a directive is the longest at its place, and the line ends where it is to end.
 pub fn lines_are_longest()
     ensures { LinesAreLongest }
+{}
+
+/// The pieces of a text are the only ones that it can be cut into, each as long as it can be. A directive is such a
+/// piece: its `#`, and the pieces of its line.
+pub fn only_cutting()
+    ensures { IsOnlyCutting }
 {}
 
 /// No bytes are pieces of two kinds. So the longest piece at a place is the only one of its length.

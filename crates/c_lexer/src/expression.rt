@@ -41,7 +41,7 @@ pub(crate) fn operand(names: &Names, part: Part) -> Option<i32>
 }
 
 /// What stands before an operand in one pair of brackets.
-#[derive(Clone, Copy, Debug, PartialEq, Eq)]
+#[derive(Clone, Copy)]
 struct Frame {
     /// The sum of the terms so far.
     sum: i32,

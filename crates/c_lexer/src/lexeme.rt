@@ -8,7 +8,7 @@ use crate::bytes::{
 };
 
 /// What a piece of a text is.
-#[derive(Clone, Copy, Debug, PartialEq, Eq)]
+#[derive(Clone, Copy)]
 pub(crate) enum Kind {
     /// One byte of white space.
     White,
@@ -26,7 +26,7 @@ pub(crate) enum Kind {
 }
 
 /// The piece at the front of a text: its kind, and how many bytes it has.
-#[derive(Clone, Copy, Debug, PartialEq, Eq)]
+#[derive(Clone, Copy)]
 pub(crate) struct Lexeme {
     pub(crate) kind: Kind,
     pub(crate) len: usize,

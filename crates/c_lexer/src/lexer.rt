@@ -6,7 +6,7 @@ ghost use Rattle.sat_base.specs.declared.limits.TheConstants.{SOURCE_BYTES, TOKE
 ghost use Rattle.c_lexer.specs.declared.token.LexRefusal.TheVariants.{Memory};
 ghost use Rattle.c_lexer.specs.Directive.{line_bytes};
 ghost use Rattle.c_lexer.specs.Judging.{IsBegun, HasPushed, IsJudged, plain_piece, directive_piece, piece_in};
-ghost use Rattle.c_lexer.specs.Spans.{LiesIn, Precedes};
+ghost use Rattle.c_lexer.specs.Spans.{LiesIn, HasBytes, Precedes};
 ghost use Rattle.c_lexer.specs.Text.{IsCut, first_lexical_fault, too_many, word_kind};
 ghost use Rattle.c_lexer.specs.Lexeme.{is_hash};
 ghost use Rattle.c_lexer.specs.Views.{names_of};
@@ -149,6 +149,7 @@ pub fn tokens(alloc: Global, text: &[u8]) -> Result<Tokens, LexRefusal>
     ensures cut { IfOk result (λ answer. IsCut text.now answer) }
     ensures few { IfOk result (λ answer. length answer.list ≤ TOKENS) }
     ensures within { IfOk result (λ answer. All (LiesIn text.now) answer.list) }
+    ensures filled { IfOk result (λ answer. All HasBytes answer.list) }
     ensures ordered { IfOk result (λ answer. AllPairs Precedes answer.list) }
     ensures refused { IfErr result (λ refusal. (refusal ≡ Memory) ⊎ (first_lexical_fault text.now ≡ Some refusal)) }
 {

@@ -27,7 +27,7 @@ pub struct Token {
 }
 
 /// A text that is cut into tokens.
-#[derive(Debug, Drop)]
+#[derive(Drop)]
 pub struct Tokens {
     /// The bytes of the text.
     pub text: Items<u8>,

@@ -22,7 +22,7 @@ use Rattle.c_reader.specs.Spots.{Spot}
 use Rattle.c_reader.specs.Stream.{ahead, rest, Fault, Parser, ◌>>=◌, both, mapped, take_at}
 use Rattle.c_reader.specs.Symbols.{same_symbol, begins_expression}
 use Rattle.c_reader.proofs.Indices.{of_expression, of_named, of_called, Read-name}
-use Rattle.c_reader.proofs.Leads.{lead_ahead}
+use Rattle.c_reader.proofs.Begins.{spells_starts}
 use Rattle.c_reader.proofs.Lists.{followed_at, listed_at, listed_right}
 use Rattle.c_reader.proofs.Looser.{done, same, loose, tighten, Seen-looser, seen_by, seen_twice}
 use Rattle.c_reader.proofs.Lower.{RightReaders}
@@ -64,7 +64,7 @@ address_choice : (x : Arg) {early late : List Part} {c1 : ℕ} (u1 u2 s r i : Li
     → (u1 ++ u2) ++ s ≡ r → first r ≡ first i → Chosen (both_parts of_and of_named) no_parts (both_stops stops_place) address_of x early late s
 address_choice x u1 u2 s r i (rule.address {at = at} {p = p} e) sp is st eq h = record { a = (at, p); same = e; is_early = refl; is_late = refl; stops = expression_place (ahead s) st }
 address_choice x u1 u2 s r i (rule.value {e = e} f) sp is st eq h =
-    let no : begins_expression symbol.And ≡ true = ap begins_expression (sym (spelled_ahead u1 u2 s r i eq h ∙ is)) ∙ lead_ahead (u2 ++ s) sp refl in
+    let no : begins_expression symbol.And ≡ true = ap begins_expression (sym (spelled_ahead u1 u2 s r i eq h ∙ is)) ∙ spells_starts (u2 ++ s) sp in
     cc
 
 value_choice : (x : Arg) {early late : List Part} {c1 : ℕ} (u1 u2 s r i : List Spot) → Rule (a.arg x) early late → Spells early c1 u1 → ahead i ≢ symbol.And → Stops stops_arg x s
@@ -188,7 +188,7 @@ no_args_rule xs u1 u2 s r y z rule.no_args sp1 sp2 is e =
     (refl, same)
 no_args_rule xs u1 u2 s r y z (rule.args {x = x}) sp1 sp2 is e =
     let it : ahead (u1 ++ (u2 ++ (y ∷ s))) ≡ symbol.CloseParen = ap ahead (sym (append_assoc u1 u2 (y ∷ s)) ∙ e) ∙ is in
-    let no : (same_symbol symbol.CloseParen symbol.And || begins_expression symbol.CloseParen) ≡ true = ap (λ (t : Symbol). same_symbol t symbol.And || begins_expression t) (sym it) ∙ lead_ahead (u2 ++ (y ∷ s)) sp1 refl in
+    let no : (same_symbol symbol.CloseParen symbol.And || begins_expression symbol.CloseParen) ≡ true = ap (λ (t : Symbol). same_symbol t symbol.And || begins_expression t) (sym it) ∙ spells_starts (u2 ++ (y ∷ s)) sp1 in
     cc
 
 -- no arguments where `)` is ahead

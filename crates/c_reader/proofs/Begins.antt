@@ -1,8 +1,12 @@
 -- With which symbols the parts of the tree begin.
 use Rattle.std.proofs.Common.{◌≡◌, ℕ, Bool, true, false, List, [], ◌∷◌, ◌++◌, refl, ap, subst, ◌∙◌, sym}
 use Rattle.std.proofs.lemmas.List.{append_assoc}
+use Rattle.std.specs.Prelude.{◌||◌}
+use Rattle.c_tree.specs.declared.declaration.Dim.{Dim}
+use Rattle.c_tree.specs.declared.declaration.Row.{Row}
 use Rattle.c_tree.specs.declared.expression.UnaryMark.{UnaryMark}
 use Rattle.c_tree.specs.declared.expression.UnaryMark.TheVariants as unaries
+use Rattle.c_tree.specs.declared.statement.Block.{Block}
 use Rattle.c_reader.specs.declared.symbol.Symbol.{Symbol}
 use Rattle.c_reader.specs.declared.symbol.Symbol.TheVariants as symbol
 use Rattle.c_reader.specs.Grammar.{Rule}
@@ -20,18 +24,14 @@ use Rattle.c_reader.proofs.Rules.{symbol_of_token, is-symbol}
 use Rattle.c_reader.proofs.Sequences.{from_nothing}
 use Rattle.c_reader.proofs.SymbolNumbers.{same-is, same-self}
 
-abbrev pub begins_place : Symbol → Bool
-begins_place symbol.Name = true
-begins_place symbol.Star = true
-begins_place _ = false
-
 abbrev pub begins_name : Symbol → Bool
-begins_name symbol.Name = true
-begins_name _ = false
+begins_name s = same_symbol s symbol.Name
+
+abbrev pub begins_place : Symbol → Bool
+begins_place s = same_symbol s symbol.Name || same_symbol s symbol.Star
 
 abbrev pub begins_block : Symbol → Bool
-begins_block symbol.OpenBrace = true
-begins_block _ = false
+begins_block s = same_symbol s symbol.OpenBrace
 
 abbrev pub begins_simple : Symbol → Bool
 begins_simple symbol.Name = true
@@ -41,17 +41,50 @@ begins_simple symbol.MinusMinus = true
 begins_simple symbol.Overflow = true
 begins_simple _ = false
 
+abbrev pub begins_declarator : Symbol → Bool
+begins_declarator symbol.Star = true
+begins_declarator symbol.Name = true
+begins_declarator _ = false
+
+abbrev pub begins_param : Symbol → Bool
+begins_param symbol.Const = true
+begins_param s = begins_type s
+
+abbrev begins_result : Symbol → Bool
+begins_result symbol.Void = true
+begins_result s = begins_type s
+
+abbrev pub begins_function : Symbol → Bool
+begins_function symbol.Static = true
+begins_function s = begins_result s
+
+abbrev pub begins_item : Symbol → Bool
+begins_item symbol.Extern = true
+begins_item symbol.Const = true
+begins_item s = begins_function s
+
 -- the symbols that a part of the tree may begin with; of others than these nothing is said
 abbrev pub begins : Node → Symbol → Bool
+begins (a.item i) s = begins_item s
 begins (a.objects o) s = begins_objects s
 begins (a.specifiers at is_static is_const width) s = begins_objects s
 begins (a.type_ at width) s = begins_type s
+begins (a.declarator is_static is_const width d) s = begins_declarator s
+begins (a.dimension d) s = same_symbol s symbol.OpenBracket
+begins (a.row r) s = same_symbol s symbol.OpenBrace
+begins (a.values vs) s = begins_expression s
+begins (a.function f) s = begins_function s
+begins (a.given at is_static gives) s = begins_function s
+begins (a.result at gives) s = begins_result s
+begins (a.param p) s = begins_param s
+begins (a.param_type at type_at is_const width) s = begins_param s
 begins (a.block b) s = begins_block s
 begins (a.stmt x) s = begins_statement s
 begins (a.simple x) s = begins_simple s
 begins (a.place p) s = begins_place s
 begins (a.named p) s = begins_name s
 begins (a.call c) s = begins_name s
+begins (a.arg x) s = same_symbol s symbol.And || begins_expression s
 begins (a.expr e) s = begins_expression s
 begins (a.chain n e) s = begins_expression s
 begins (a.unary e) s = begins_expression s
@@ -76,6 +109,38 @@ type_objects symbol.Flag h = refl
 type_objects symbol.IntWord h = refl
 type_objects symbol.Long h = refl
 type_objects _ h = cc
+
+type_param : (s : Symbol) → begins_type s ≡ true → begins_param s ≡ true
+type_param symbol.Const h = refl
+type_param _ h = h
+
+type_result : (s : Symbol) → begins_type s ≡ true → begins_result s ≡ true
+type_result symbol.Void h = refl
+type_result _ h = h
+
+result_function : (s : Symbol) → begins_result s ≡ true → begins_function s ≡ true
+result_function symbol.Static h = refl
+result_function _ h = h
+
+function_item : (s : Symbol) → begins_function s ≡ true → begins_item s ≡ true
+function_item symbol.Extern h = refl
+function_item symbol.Const h = refl
+function_item _ h = h
+
+objects_item : (s : Symbol) → begins_objects s ≡ true → begins_item s ≡ true
+objects_item symbol.Static h = refl
+objects_item symbol.Const h = refl
+objects_item symbol.Word16 h = refl
+objects_item symbol.Short h = refl
+objects_item symbol.Word32 h = refl
+objects_item symbol.Flag h = refl
+objects_item symbol.IntWord h = refl
+objects_item symbol.Long h = refl
+objects_item _ h = cc
+
+expression_argument : (s : Symbol) → begins_expression s ≡ true → (same_symbol s symbol.And || begins_expression s) ≡ true
+expression_argument symbol.And h = refl
+expression_argument _ h = h
 
 block_statement : (s : Symbol) → begins_block s ≡ true → begins_statement s ≡ true
 block_statement symbol.OpenBrace h = refl
@@ -124,6 +189,10 @@ step_simple false = refl
 -- ---- the rules
 
 rule_begins : {n : Node} {early late : List Part} (s : Symbol) → Rule n early late → starts (early ++ late) s ≡ true → begins n s ≡ true
+rule_begins s (rule.extern_flag is) h = to begins_item s symbol.Extern h refl
+rule_begins s (rule.extern_int is) h = to begins_item s symbol.Extern h refl
+rule_begins s (rule.item_objects is) h = objects_item s h
+rule_begins s (rule.item_function is) h = function_item s h
 rule_begins s (rule.objects is) h = h
 rule_begins s rule.no_qualifier h = type_objects s h
 rule_begins s rule.static h = to begins_objects s symbol.Static h refl
@@ -138,7 +207,23 @@ rule_begins s rule.flag h = to begins_type s symbol.Flag h refl
 rule_begins s rule.int h = to begins_type s symbol.IntWord h refl
 rule_begins s rule.long h = to begins_type s symbol.Long h refl
 rule_begins s rule.long_int h = to begins_type s symbol.Long h refl
-rule_begins s rule.block h = to begins_block s symbol.OpenBrace h refl
+rule_begins s (rule.view is) h = to begins_declarator s symbol.Star h refl
+rule_begins s (rule.object is) h = to begins_declarator s symbol.Name h refl
+rule_begins s rule.dimension h = h
+rule_begins s rule.row h = h
+rule_begins s rule.values h = h
+rule_begins s rule.values_and_comma h = h
+rule_begins s (rule.function is) h = h
+rule_begins s rule.given h = result_function s h
+rule_begins s rule.given_static h = to begins_function s symbol.Static h refl
+rule_begins s rule.result_type h = type_result s h
+rule_begins s rule.result_void h = to begins_result s symbol.Void h refl
+rule_begins s (rule.number_param is) h = h
+rule_begins s (rule.view_param is) h = h
+rule_begins s (rule.array_param is) h = h
+rule_begins s rule.param_type h = type_param s h
+rule_begins s rule.const_param_type h = to begins_param s symbol.Const h refl
+rule_begins s rule.block h = h
 rule_begins s (rule.empty is) h = to begins_statement s symbol.Semicolon h refl
 rule_begins s (rule.block_stmt is) h = block_statement s h
 rule_begins s (rule.simple_stmt is) h = simple_statement s h
@@ -157,10 +242,12 @@ rule_begins s (rule.set_overflow is) h = to begins_simple s symbol.Overflow h re
 rule_begins s (rule.simple_call is) h = name_simple s h
 rule_begins s rule.place_named h = name_place s h
 rule_begins s (rule.deref is) h = to begins_place s symbol.Star h refl
-rule_begins s (rule.plain is) h = to begins_name s symbol.Name h refl
-rule_begins s (rule.index is) h = to begins_name s symbol.Name h refl
-rule_begins s (rule.index2 is) h = to begins_name s symbol.Name h refl
-rule_begins s (rule.call is) h = to begins_name s symbol.Name h refl
+rule_begins s (rule.plain is) h = h
+rule_begins s (rule.index is) h = h
+rule_begins s (rule.index2 is) h = h
+rule_begins s (rule.call is) h = h
+rule_begins s (rule.address is) h = to (λ (t : Symbol). same_symbol t symbol.And || begins_expression t) s symbol.And h refl
+rule_begins s (rule.value is) h = expression_argument s h
 rule_begins s rule.plain_expr h = h
 rule_begins s (rule.choose is) h = h
 rule_begins s rule.operand h = h
@@ -196,3 +283,18 @@ spells_starts s (spelling.whole {n = n} {early = early} {late = late} {u1 = u1} 
     let f : starts (early ++ late) (ahead (u1 ++ (u2 ++ (v ++ s)))) ≡ true =
     starts_first early late (ahead (u1 ++ (u2 ++ (v ++ s)))) (ahead (u2 ++ (v ++ s))) h (λ none. ap (λ (x : List Spot). ahead (x ++ (u2 ++ (v ++ s)))) (no_tokens before none)) k in
     rule_begins (ahead (w ++ s)) rule (subst (λ (x : List Spot). starts (early ++ late) (ahead x) ≡ true) (sym e) f)
+
+-- a symbol that is among some is none that is not
+pub wrong : (P : Symbol → Bool) (s t : Symbol) → P s ≡ true → s ≡ t → P t ≡ false → ⊥
+wrong P s t e f g = let h : P t ≡ true = ap P (sym f) ∙ e in cc
+
+-- ---- parts that begin with one symbol
+
+pub dimension_begins : {d : Dim} {ps : List Part} {c : ℕ} {w : List Spot} (s : List Spot) → Spells (node (a.dimension d) ∷ ps) c w → ahead (w ++ s) ≡ symbol.OpenBracket
+dimension_begins {w = w} s sp = same-is (ahead (w ++ s)) symbol.OpenBracket (spells_starts s sp)
+
+pub row_begins : {r : Row} {ps : List Part} {c : ℕ} {w : List Spot} (s : List Spot) → Spells (node (a.row r) ∷ ps) c w → ahead (w ++ s) ≡ symbol.OpenBrace
+row_begins {w = w} s sp = same-is (ahead (w ++ s)) symbol.OpenBrace (spells_starts s sp)
+
+pub block_begins : {b : Block} {ps : List Part} {c : ℕ} {w : List Spot} (s : List Spot) → Spells (node (a.block b) ∷ ps) c w → ahead (w ++ s) ≡ symbol.OpenBrace
+block_begins {w = w} s sp = same-is (ahead (w ++ s)) symbol.OpenBrace (spells_starts s sp)

@@ -19,6 +19,12 @@ spelled_depth (whole rule early late rest _ e) = cc (e, spelled_depth early, spe
 pub program_depth : (items : List Item) {d : ℕ} {w : List Spot} → Spells (each a.item items) d w → d ≡ deepest depth_of_item items
 program_depth items spells = spelled_depth spells ∙ each_depth a.item items
 
+-- what is spelled is a front of itself
+pub whole_front : {ps : List Part} {d : ℕ} {w : List Spot} → Spells ps d w → Front ps d w
+whole_front nothing = lacking
+whole_front (quoted is rest) = quoted is (whole_front rest)
+whole_front (whole rule early late rest joined e) = whole rule early late (whole_front rest) joined e
+
 -- ---- parts that spell nothing
 
 -- neither of two lists has anything in it

@@ -17,7 +17,7 @@ use Rattle.c_reader.specs.Spots.{Spot}
 use Rattle.c_reader.specs.Stream.{ahead, ◌>>=◌, both, take_at}
 use Rattle.c_reader.specs.Symbols.{same_symbol, begins_expression}
 use Rattle.c_reader.proofs.Alternatives.{by_seen, alternative, nothing_right, no_node, word_right, ahead_is}
-use Rattle.c_reader.proofs.Beginnings.{expression_begins, dimension_begins}
+use Rattle.c_reader.proofs.Begins.{dimension_begins, spells_starts}
 use Rattle.c_reader.proofs.Endings.{stricter, rule_nothing}
 use Rattle.c_reader.proofs.Right.{first, Ends, Stops, Right, always}
 use Rattle.c_reader.proofs.Rules.{Chosen, no_parts, early_seen, token-ahead}
@@ -54,7 +54,7 @@ module _ (n : ℕ) (expression_right : (i : List Spot) → Ends i → Right (λ 
           → (u1 ++ u2) ++ s ≡ r → first r ≡ first i → Chosen {A = Unit {0}} no_parts no_parts always (λ u. None) l early late s
       closed e l early late c1 c2 u1 u2 s r rule.no_expr sp sq st eq h = record { a = tt; same = refl; is_early = refl; is_late = refl; stops = refl }
       closed e l early late c1 c2 u1 u2 s r (rule.an_expr {e = x}) sp sq st eq h =
-          let b : begins_expression (ahead (u1 ++ (u2 ++ s))) ≡ true = expression_begins (u2 ++ s) sp in
+          let b : begins_expression (ahead (u1 ++ (u2 ++ s))) ≡ true = spells_starts (u2 ++ s) sp in
           let f : ahead (u1 ++ (u2 ++ s)) ≡ symbol.CloseBracket = ap ahead (sym (append_assoc u1 u2 s)) ∙ ap ahead eq ∙ ahead-same r i h ∙ e in
           let g : begins_expression symbol.CloseBracket ≡ true = ap begins_expression (sym f) ∙ b in
           absurd (cc)

@@ -56,10 +56,13 @@ then_word {A} s more of limit stops at_word i y r =
 
 -- ---- what is ahead of a node
 
-pub begins_early : {t : Token} {qs : List Part} {c : ℕ} (u1 u2 v w s : List Spot) → w ≡ (u1 ++ u2) ++ v → Spells (token t ∷ qs) c u1 → ahead (w ++ s) ≡ symbol_of_token t
-begins_early u1 u2 v w s e sp =
+pub early_ahead : (u1 u2 v w s : List Spot) → w ≡ (u1 ++ u2) ++ v → ahead (w ++ s) ≡ ahead (u1 ++ (u2 ++ (v ++ s)))
+early_ahead u1 u2 v w s e =
     let e2 : ((u1 ++ u2) ++ v) ++ s ≡ u1 ++ (u2 ++ (v ++ s)) = simp append_assoc in
-    ap (λ (x : List Spot). ahead (x ++ s)) e ∙ ap ahead e2 ∙ token-ahead (u2 ++ (v ++ s)) sp
+    ap (λ (x : List Spot). ahead (x ++ s)) e ∙ ap ahead e2
+
+pub early_token : {t : Token} {qs : List Part} {c : ℕ} (u1 u2 v w s : List Spot) → w ≡ (u1 ++ u2) ++ v → Spells (token t ∷ qs) c u1 → ahead (w ++ s) ≡ symbol_of_token t
+early_token u1 u2 v w s e sp = early_ahead u1 u2 v w s e ∙ token-ahead (u2 ++ (v ++ s)) sp
 
 -- what is ahead, by the first token of a rule
 pub rule_ahead : {t : Token} {qs : List Part} {c : ℕ} (u1 u2 s r i : List Spot) → Spells (token t ∷ qs) c u1 → (u1 ++ u2) ++ s ≡ r → first r ≡ first i → ahead i ≡ symbol_of_token t

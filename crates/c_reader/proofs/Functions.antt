@@ -21,7 +21,7 @@ use Rattle.c_reader.specs.Spots.{Spot}
 use Rattle.c_reader.specs.Stream.{ahead, Parser, both}
 use Rattle.c_reader.specs.Symbols.{same_symbol}
 use Rattle.c_reader.proofs.Alternatives.{by_seen, nothing_right, word_right, ends_after, after_word}
-use Rattle.c_reader.proofs.Beginnings.{block_begins}
+use Rattle.c_reader.proofs.Begins.{block_begins}
 use Rattle.c_reader.proofs.Dependent.{seen_by}
 use Rattle.c_reader.proofs.Endings.{rule_ahead}
 use Rattle.c_reader.proofs.ParametersRight.{closes_params, params_right}

@@ -21,7 +21,8 @@ use Rattle.c_reader.specs.Spots.{Spot}
 use Rattle.c_reader.specs.Stream.{ahead, rest, Fault, both}
 use Rattle.c_reader.specs.Symbols.{same_symbol, begins_expression}
 use Rattle.c_reader.proofs.Alternatives.{by_seen, no_node, word_right, word_then, ends_after, ahead_is}
-use Rattle.c_reader.proofs.Beginnings.{expression_begins, row_begins, early_ahead, early_token}
+use Rattle.c_reader.proofs.Begins.{row_begins, spells_starts}
+use Rattle.c_reader.proofs.Endings.{early_token}
 use Rattle.c_reader.proofs.Braced.{Tail, tail_parts, tail_true, tail_false, front_of, closes, braced_as, closed_at, closed_right, closed_is}
 use Rattle.c_reader.proofs.Dependent.{seen_by}
 use Rattle.c_reader.proofs.Endings.{then_word, seen_twice, rule_ahead, rule_nothing, rule_next, two_words_then}
@@ -62,16 +63,13 @@ no_end : (s : Symbol) → begins_expression s ≡ true → s ≢ symbol.CloseBra
 no_end s e f = let g : begins_expression symbol.CloseBrace ≡ true = ap begins_expression (sym f) ∙ e in cc
 
 -- what a list of values begins with
-values_begins : {vs : List Expr} {ps : List Part} {c : ℕ} {w : List Spot} (s : List Spot) → Spells (node (a.values vs) ∷ ps) c w → begins_expression (ahead (w ++ s)) ≡ true
-values_begins {w = w} s (whole {u1 = u1} {u2 = u2} {v = v} rule.values early late rest e _) = ap begins_expression (early_ahead u1 u2 v w s e) ∙ expression_begins (u2 ++ (v ++ s)) early
-values_begins {w = w} s (whole {u1 = u1} {u2 = u2} {v = v} rule.values_and_comma early late rest e _) = ap begins_expression (early_ahead u1 u2 v w s e) ∙ expression_begins (u2 ++ (v ++ s)) early
 
 module _ (n : ℕ) (expression_right : (i : List Spot) → Ends i → Right (λ (e : Expr). node (a.expr e) ∷ []) n stops_expression [] i (expression_at n i)) where
   abbrev value_parts : Expr × Tail Expr → List Part
   value_parts x = node (a.expr x.0) ∷ tail_parts a.expr x.1.0 x.1.1
 
   value_ends : (x : Expr) (ps : List Part) (c : ℕ) (u s : List Spot) → Spells (node (a.expr x) ∷ ps) c u → ahead (u ++ s) ≢ symbol.CloseBrace
-  value_ends x ps c u s sp = no_end (ahead (u ++ s)) (expression_begins s sp)
+  value_ends x ps c u s sp = no_end (ahead (u ++ s)) (spells_starts s sp)
 
   abbrev values_parts : List Expr → List Part
   values_parts vs = node (a.values vs) ∷ word symbol.CloseBrace ∷ []
@@ -184,7 +182,7 @@ module _ (n : ℕ) (expression_right : (i : List Spot) → Ends i → Right (λ 
       which x early late c1 c2 u1 u2 s r rule.nothing sp sq st eq h = absurd (no_equal (ahead s) st (ap ahead (rule_nothing u1 u2 s (c ∷ o ∷ r) sp sq eq) ∙ is))
       which x early late c1 c2 u1 u2 s r (rule.one {value = e}) sp sq st eq h =
           let k = rule_next c u1 u2 s (o ∷ r) sp eq in
-          absurd (no_brace (ahead (k.w ++ (u2 ++ s))) (expression_begins (u2 ++ s) k.spelled) (ap ahead k.tokens ∙ is2))
+          absurd (no_brace (ahead (k.w ++ (u2 ++ s))) (spells_starts (u2 ++ s) k.spelled) (ap ahead k.tokens ∙ is2))
       which x early late c1 c2 u1 u2 s r (rule.flat {values = vs}) sp sq st eq h = record { a = vs; same = refl; is_early = refl; is_late = refl; stops = refl }
       which x early late c1 c2 u1 u2 s r rule.rows sp sq st eq h = absurd (ne (third c o u1 u2 s r cs (λ s. s ≡ symbol.OpenBrace) sp eq h (λ w z sp. row_begins z sp)))
       which x early late c1 c2 u1 u2 s r rule.rows_and_comma sp sq st eq h = absurd (ne (third c o u1 u2 s r cs (λ s. s ≡ symbol.OpenBrace) sp eq h (λ w z sp. row_begins z sp)))
@@ -215,9 +213,9 @@ module _ (n : ℕ) (expression_right : (i : List Spot) → Ends i → Right (λ 
       which x early late c1 c2 u1 u2 s r rule.nothing sp sq st eq h = absurd (no_equal (ahead s) st (ap ahead (rule_nothing u1 u2 s (c ∷ o ∷ r) sp sq eq) ∙ is))
       which x early late c1 c2 u1 u2 s r (rule.one {value = e}) sp sq st eq h =
           let k = rule_next c u1 u2 s (o ∷ r) sp eq in
-          absurd (no_brace (ahead (k.w ++ (u2 ++ s))) (expression_begins (u2 ++ s) k.spelled) (ap ahead k.tokens ∙ is2))
+          absurd (no_brace (ahead (k.w ++ (u2 ++ s))) (spells_starts (u2 ++ s) k.spelled) (ap ahead k.tokens ∙ is2))
       which x early late c1 c2 u1 u2 s r rule.flat sp sq st eq h =
-          absurd (third c o u1 u2 s r cs (λ s. s ≢ symbol.OpenBrace) sp eq h (λ w z sp. no_brace (ahead (w ++ z)) (values_begins z sp)) brace)
+          absurd (third c o u1 u2 s r cs (λ s. s ≢ symbol.OpenBrace) sp eq h (λ w z sp. no_brace (ahead (w ++ z)) (spells_starts z sp)) brace)
       which x early late c1 c2 u1 u2 s r (rule.rows {row = y} {rows = ys}) sp sq st eq h =
           record { a = (y, (ys, false)); same = refl; is_early = ap (λ (ps : List Part). word symbol.Equal ∷ word symbol.OpenBrace ∷ ps) (with_none y ys); is_late = refl; stops = refl }
       which x early late c1 c2 u1 u2 s r (rule.rows_and_comma {row = y} {rows = ys}) sp sq st eq h =

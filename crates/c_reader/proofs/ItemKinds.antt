@@ -19,7 +19,7 @@ use Rattle.c_reader.specs.Spots.{Spot}
 use Rattle.c_reader.specs.Stream.{ahead, here, rest, Fault, Parser, both, name_at}
 use Rattle.c_reader.specs.Symbols.{same_symbol, begins_type}
 use Rattle.c_reader.proofs.Alternatives.{by_seen, alternative, ends_after, ahead_is, follows_token, token_then}
-use Rattle.c_reader.proofs.Beginnings.{type_begins, begins_declarator, declarator_begins}
+use Rattle.c_reader.proofs.Begins.{begins_declarator, spells_starts}
 use Rattle.c_reader.proofs.Dependent.{then_right, then_read, seen_by}
 use Rattle.c_reader.proofs.Functions.{FunctionRest, function_rest, read_function, function_right}
 use Rattle.c_reader.proofs.ItemRests.{Rest, objects, rest_parts, read_rest, rest_begins, rest_right}
@@ -95,9 +95,9 @@ any_kind q true = ((nowhere, W16), any_decls (specified q (nowhere, W16)))
 any_kind q false = a_void nowhere no_name (tt, ([], (tt, None)))
 
 kind_no_qualifier : (q : Quals) (b : Bool) (x : Kind b) (d : ℕ) (v t : List Spot) → Spells (kind_parts q b x) d v → no_qualifier (ahead (v ++ t)) ≡ true
-kind_no_qualifier q true x d v t sp = type_no_qualifier (ahead (v ++ t)) (type_begins t sp)
+kind_no_qualifier q true x d v t sp = type_no_qualifier (ahead (v ++ t)) (spells_starts t sp)
 kind_no_qualifier q false (a_void at name f) d v t sp = follows_token no_qualifier t sp refl
-kind_no_qualifier q false (a_typed x r) d v t sp = type_no_qualifier (ahead (v ++ t)) (type_begins t sp)
+kind_no_qualifier q false (a_typed x r) d v t sp = type_no_qualifier (ahead (v ++ t)) (spells_starts t sp)
 
 module _ (n : ℕ) (block : Parser Block)
     (block_right : (i : List Spot) → Ends i → Right (λ (b : Block). node (a.block b) ∷ []) n always [] i (block i))
@@ -122,7 +122,7 @@ module _ (n : ℕ) (block : Parser Block)
         where
           which : (x : Late) (d : ℕ) (v t r : List Spot) → Spells (late_parts q x) d v → Stops always x t → v ++ t ≡ c ∷ r → first r ≡ first cs → (y : At × (Named × FunctionRest)) × (x ≡ void_with y)
           which (a_void at name f) d v t r sp st e h = ((at, (name, f)), refl)
-          which (a_typed x y) d v t r sp st e h = absurd (no_void (ahead (v ++ t)) (type_begins t sp) (ap ahead e ∙ is))
+          which (a_typed x y) d v t r sp st e h = absurd (no_void (ahead (v ++ t)) (spells_starts t sp) (ap ahead e ∙ is))
 
       typed : c.symbol ≢ symbol.Void → Right (late_parts q) n always [] (c ∷ cs) (seen_by typed_with (then_read {B = λ x. Rest} (type_at (c ∷ cs)) (λ x. read_rest block n (specified q x))))
       typed ne =
@@ -138,7 +138,7 @@ module _ (n : ℕ) (block : Parser Block)
   kind_right : (q : Quals) (b : Bool) (i : List Spot) → Ends i → Right (kind_parts q b) n always [] i (read_kind block n q b i)
   kind_right q false i ends = late_right q i ends
   kind_right q true i ends =
-      then_right type_parts (λ x. decls_parts (specified q x)) n (λ x s. no_int s) (λ x. always) (λ x y d v t sp st. declarator_no_int (ahead (v ++ t)) (declarator_begins t sp))
+      then_right type_parts (λ x. decls_parts (specified q x)) n (λ x s. no_int s) (λ x. always) (λ x y d v t sp st. declarator_no_int (ahead (v ++ t)) (spells_starts t sp))
       (λ x. any_decls (specified q x)) (type_at i) (λ x j. declared_from n (specified q x) (declarator_at n (specified q x) j)) [] i (type_right i ends)
       (λ x j r. declared_right n expression_right argument_right index_right (specified q x) j r.ends)
 

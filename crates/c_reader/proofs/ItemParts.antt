@@ -21,7 +21,7 @@ use Rattle.c_reader.specs.Spelling.{Spells, whole, quoted}
 use Rattle.c_reader.specs.Spots.{Spot}
 use Rattle.c_reader.specs.Stream.{ahead}
 use Rattle.c_reader.proofs.Becoming.{Back, becoming}
-use Rattle.c_reader.proofs.Beginnings.{early_token}
+use Rattle.c_reader.proofs.Endings.{early_token}
 use Rattle.c_reader.proofs.Declarators.{spec}
 use Rattle.c_reader.proofs.Functions.{FunctionRest, function_rest}
 use Rattle.c_reader.proofs.Inlined.{Becomes, becomes_same, becomes_node, becomes_all, becomes_then, becomes_under, unfold_whole, unfold_all}

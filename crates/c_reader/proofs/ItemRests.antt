@@ -24,7 +24,8 @@ use Rattle.c_reader.specs.Stream.{ahead, Parser, both, name_at}
 use Rattle.c_reader.specs.Symbols.{same_symbol}
 use Rattle.c_reader.proofs.Alternatives.{by_seen, alternative, ahead_is, follows_token}
 use Rattle.c_reader.proofs.Becoming.{Back, becoming}
-use Rattle.c_reader.proofs.Beginnings.{dimension_begins, early_ahead, early_token, begins_declarator, declarator_begins}
+use Rattle.c_reader.proofs.Begins.{begins_declarator, dimension_begins, spells_starts}
+use Rattle.c_reader.proofs.Endings.{early_ahead, early_token}
 use Rattle.c_reader.proofs.Declarators.{Dims, object_rest, object_rest_right, declarator_right}
 use Rattle.c_reader.proofs.Dependent.{seen_by}
 use Rattle.c_reader.proofs.Endings.{word_after, then_word}
@@ -137,7 +138,7 @@ named_back s d ds c v t (whole {u1 = u1} {u2 = u2} {v = w} (rule.object {name = 
 
 -- what a rest begins with
 pub rest_begins : (s : Specifiers) (x : Rest) (d : ℕ) (v t : List Spot) → Spells (rest_parts s x) d v → begins_declarator (ahead (v ++ t)) ≡ true
-rest_begins s (objects x) d v t sp = declarator_begins t sp
+rest_begins s (objects x) d v t sp = spells_starts t sp
 rest_begins s (function name f) d v t sp = follows_token begins_declarator t sp refl
 
 module _ (n : ℕ) (block : Parser Block)

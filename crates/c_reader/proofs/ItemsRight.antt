@@ -23,9 +23,9 @@ use Rattle.c_reader.specs.ReadSource.{flag_type_at, extern_flag_at, qualified_it
 use Rattle.c_reader.specs.Spelling.{Spells, whole}
 use Rattle.c_reader.specs.Spots.{Spot}
 use Rattle.c_reader.specs.Stream.{ahead, Fault, Parser, ◌>>=◌, both, take_at}
-use Rattle.c_reader.specs.Symbols.{same_symbol, begins_type}
+use Rattle.c_reader.specs.Symbols.{same_symbol, begins_objects}
 use Rattle.c_reader.proofs.Alternatives.{by_seen, alternative, nothing_right, word_right, after_word, ends_after, ahead_is}
-use Rattle.c_reader.proofs.Beginnings.{early_ahead, early_token, type_begins}
+use Rattle.c_reader.proofs.Begins.{begins_function, begins_item, spells_starts, wrong}
 use Rattle.c_reader.proofs.Dependent.{then_right, then_read, seen_by, read_as}
 use Rattle.c_reader.proofs.ItemKinds.{read_item, parts_right}
 use Rattle.c_reader.proofs.ItemModel.{item_is}
@@ -38,65 +38,6 @@ use Rattle.c_reader.proofs.Steps.{Right-both}
 use Rattle.c_reader.proofs.Stops.{ends_expression, stops_expression}
 use Rattle.c_reader.proofs.SymbolNumbers.{same-is, other-is}
 use Rattle.c_reader.proofs.Tokens.{Right-if, take_right, ahead-same}
-
--- ---- what an item begins with
-
-abbrev begins_declaration : Symbol → Bool
-begins_declaration symbol.Static = true
-begins_declaration symbol.Const = true
-begins_declaration symbol.Void = true
-begins_declaration s = begins_type s
-
-abbrev pub begins_item : Symbol → Bool
-begins_item symbol.Extern = true
-begins_item s = begins_declaration s
-
-type_declaration : (s : Symbol) → begins_type s ≡ true → begins_declaration s ≡ true
-type_declaration symbol.Static e = refl
-type_declaration symbol.Const e = refl
-type_declaration symbol.Void e = refl
-type_declaration _ e = e
-
-declaration_item : (s : Symbol) → begins_declaration s ≡ true → begins_item s ≡ true
-declaration_item symbol.Extern e = refl
-declaration_item _ e = e
-
-no_extern : (s : Symbol) → begins_declaration s ≡ true → s ≢ symbol.Extern
-no_extern s e f = let g : begins_declaration symbol.Extern ≡ true = ap begins_declaration (sym f) ∙ e in cc
-
-specifiers_begin : {at : At} {is_static is_const : Bool} {width : Width} {ps : List Part} {c : ℕ} {w : List Spot} (s : List Spot) → Spells (node (a.specifiers at is_static is_const width) ∷ ps) c w → begins_declaration (ahead (w ++ s)) ≡ true
-specifiers_begin {w = w} s (whole {u1 = u1} {u2 = u2} {v = v} rule.no_qualifier early late after e _) =
-    ap begins_declaration (early_ahead u1 u2 v w s e) ∙ type_declaration (ahead (u1 ++ (u2 ++ (v ++ s)))) (type_begins (u2 ++ (v ++ s)) early)
-specifiers_begin {w = w} s (whole {u1 = u1} {u2 = u2} {v = v} rule.static early late after e _) = ap begins_declaration (early_token u1 u2 v w s e early)
-specifiers_begin {w = w} s (whole {u1 = u1} {u2 = u2} {v = v} rule.const early late after e _) = ap begins_declaration (early_token u1 u2 v w s e early)
-specifiers_begin {w = w} s (whole {u1 = u1} {u2 = u2} {v = v} rule.static_const early late after e _) = ap begins_declaration (early_token u1 u2 v w s e early)
-specifiers_begin {w = w} s (whole {u1 = u1} {u2 = u2} {v = v} rule.const_static early late after e _) = ap begins_declaration (early_token u1 u2 v w s e early)
-
-pub objects_begin : {o : Objects} {ps : List Part} {c : ℕ} {w : List Spot} (s : List Spot) → Spells (node (a.objects o) ∷ ps) c w → begins_declaration (ahead (w ++ s)) ≡ true
-objects_begin {w = w} s (whole {u1 = u1} {u2 = u2} {v = v} (rule.objects _) early late after e _) = ap begins_declaration (early_ahead u1 u2 v w s e) ∙ specifiers_begin (u2 ++ (v ++ s)) early
-
-result_begins : {at : At} {gives : Option Width} {ps : List Part} {c : ℕ} {w : List Spot} (s : List Spot) → Spells (node (a.result at gives) ∷ ps) c w → begins_declaration (ahead (w ++ s)) ≡ true
-result_begins {w = w} s (whole {u1 = u1} {u2 = u2} {v = v} rule.result_type early late after e _) =
-    ap begins_declaration (early_ahead u1 u2 v w s e) ∙ type_declaration (ahead (u1 ++ (u2 ++ (v ++ s)))) (type_begins (u2 ++ (v ++ s)) early)
-result_begins {w = w} s (whole {u1 = u1} {u2 = u2} {v = v} rule.result_void early late after e _) = ap begins_declaration (early_token u1 u2 v w s e early)
-
-given_begins : {at : At} {is_static : Bool} {gives : Option Width} {ps : List Part} {c : ℕ} {w : List Spot} (s : List Spot) → Spells (node (a.given at is_static gives) ∷ ps) c w → begins_declaration (ahead (w ++ s)) ≡ true
-given_begins {w = w} s (whole {u1 = u1} {u2 = u2} {v = v} rule.given early late after e _) = ap begins_declaration (early_ahead u1 u2 v w s e) ∙ result_begins (u2 ++ (v ++ s)) early
-given_begins {w = w} s (whole {u1 = u1} {u2 = u2} {v = v} rule.given_static early late after e _) = ap begins_declaration (early_token u1 u2 v w s e early)
-
-function_begins : {f : Function} {ps : List Part} {c : ℕ} {w : List Spot} (s : List Spot) → Spells (node (a.function f) ∷ ps) c w → begins_declaration (ahead (w ++ s)) ≡ true
-function_begins {w = w} s (whole {u1 = u1} {u2 = u2} {v = v} (rule.function _) early late after e _) = ap begins_declaration (early_ahead u1 u2 v w s e) ∙ given_begins (u2 ++ (v ++ s)) early
-
-pub item_begins : {i : Item} {ps : List Part} {c : ℕ} {w : List Spot} (s : List Spot) → Spells (node (a.item i) ∷ ps) c w → begins_item (ahead (w ++ s)) ≡ true
-item_begins {w = w} s (whole {u1 = u1} {u2 = u2} {v = v} (rule.extern_flag _) early late after e _) = ap begins_item (early_token u1 u2 v w s e early)
-item_begins {w = w} s (whole {u1 = u1} {u2 = u2} {v = v} (rule.extern_int _) early late after e _) = ap begins_item (early_token u1 u2 v w s e early)
-item_begins {w = w} s (whole {u1 = u1} {u2 = u2} {v = v} (rule.item_objects _) early late after e _) =
-    ap begins_item (early_ahead u1 u2 v w s e) ∙ declaration_item (ahead (u1 ++ (u2 ++ (v ++ s)))) (objects_begin (u2 ++ (v ++ s)) early)
-item_begins {w = w} s (whole {u1 = u1} {u2 = u2} {v = v} (rule.item_function _) early late after e _) =
-    ap begins_item (early_ahead u1 u2 v w s e) ∙ declaration_item (ahead (u1 ++ (u2 ++ (v ++ s)))) (function_begins (u2 ++ (v ++ s)) early)
-
-no_item_at_end : (s : Symbol) → begins_item s ≡ true → s ≢ symbol.End
-no_item_at_end s e f = let g : begins_item symbol.End ≡ true = ap begins_item (sym f) ∙ e in cc
 
 -- ---- the flag
 
@@ -160,9 +101,9 @@ extern_right n i ends is =
     which x early late c1 c2 u1 u2 s r (rule.extern_flag {at = at} e) sp sq st eq h = record { a = (at, (true, (tt, tt))); same = e; is_early = refl; is_late = refl; stops = refl }
     which x early late c1 c2 u1 u2 s r (rule.extern_int {at = at} e) sp sq st eq h = record { a = (at, (false, (tt, tt))); same = e; is_early = refl; is_late = refl; stops = refl }
     which x early late c1 c2 u1 u2 s r (rule.item_objects e) sp sq st eq h =
-        absurd (no_extern (ahead (u1 ++ (u2 ++ s))) (objects_begin (u2 ++ s) sp) (ap ahead (sym (append_assoc u1 u2 s)) ∙ ap ahead eq ∙ ahead-same r i h ∙ is))
+        absurd (wrong begins_objects (ahead (u1 ++ (u2 ++ s))) symbol.Extern (spells_starts (u2 ++ s) sp) (ap ahead (sym (append_assoc u1 u2 s)) ∙ ap ahead eq ∙ ahead-same r i h ∙ is) refl)
     which x early late c1 c2 u1 u2 s r (rule.item_function e) sp sq st eq h =
-        absurd (no_extern (ahead (u1 ++ (u2 ++ s))) (function_begins (u2 ++ s) sp) (ap ahead (sym (append_assoc u1 u2 s)) ∙ ap ahead eq ∙ ahead-same r i h ∙ is))
+        absurd (wrong begins_function (ahead (u1 ++ (u2 ++ s))) symbol.Extern (spells_starts (u2 ++ s) sp) (ap ahead (sym (append_assoc u1 u2 s)) ∙ ap ahead eq ∙ ahead-same r i h ∙ is) refl)
 
 -- ---- the list
 
@@ -211,7 +152,7 @@ items_are block n i = one_and_more length (item_at block n) (item_at block n i)
 module _ (n : ℕ) (p : Parser Item) (p_right : (i : List Spot) → Ends i → Right (λ (x : Item). node (a.item x) ∷ []) n always [] i (p i)) where
   -- an item has a token
   shorter : (x : Item) (d : ℕ) (more i j : List Spot) → Spells (node (a.item x) ∷ []) d more → i ≡ more ++ j → suc (length j) ≤ length i
-  shorter x d [] i j sp e = absurd (no_item_at_end symbol.End (item_begins [] sp) refl)
+  shorter x d [] i j sp e = absurd (wrong begins_item symbol.End symbol.End (spells_starts [] sp) refl refl)
   shorter x d (y ∷ ys) i j sp e = omega (arith, ap (length {A = Spot}) e, length-append (y ∷ ys) j)
 
   one_right : (fuel : List Spot → ℕ) (i : List Spot) → Ends i → ((j : List Spot) → Ends j → suc (length j) ≤ length i → Right (each a.item) n at_end [] j (more_items (fuel j) p [] j))
@@ -225,7 +166,7 @@ module _ (n : ℕ) (p : Parser Item) (p_right : (i : List Spot) → Ends i → R
     where
       which : (xs : List Item) (d : ℕ) (v s r : List Spot) → Spells (each a.item xs) d v → Stops at_end xs s → v ++ s ≡ r → first r ≡ Some c → (xs ≡ []) × (v ≡ [])
       which [] d v s r sp st e h = (refl, (from_nothing sp).tokens)
-      which (x ∷ xs) d v s r sp st e h = absurd (no_item_at_end (ahead (v ++ s)) (item_begins s sp) (ap ahead e ∙ ahead-same r (c ∷ cs) h ∙ is))
+      which (x ∷ xs) d v s r sp st e h = absurd (wrong begins_item (ahead (v ++ s)) symbol.End (spells_starts s sp) (ap ahead e ∙ ahead-same r (c ∷ cs) h ∙ is) refl)
 
   another : (fuel : ℕ) (c : Spot) (cs : List Spot) → Ends (c ∷ cs) → ((j : List Spot) → Ends j → length j ≤ fuel → Right (each a.item) n at_end [] j (more_items fuel p [] j)) → length (c ∷ cs) ≤ suc fuel
       → c.symbol ≢ symbol.End → Right (each a.item) n at_end [] (c ∷ cs) (p (c ∷ cs) >>= (λ x. more_items fuel p (x.0 ∷ []) x.1))

@@ -1,7 +1,6 @@
 pub mod Alternatives
 pub mod Arguments
 pub mod Becoming
-pub mod Beginnings
 pub mod Begins
 pub mod BlockRight
 pub mod Braced
@@ -29,7 +28,6 @@ pub mod ItemModel
 pub mod ItemParts
 pub mod ItemRests
 pub mod ItemsRight
-pub mod Leads
 pub mod Listed
 pub mod Lists
 pub mod Loops
@@ -38,7 +36,6 @@ pub mod Lower
 pub mod Many
 pub mod Maybes
 pub mod NextReaders
-pub mod NoExpressions
 pub mod NoReaders
 pub mod NodeDepths
 pub mod Numbers

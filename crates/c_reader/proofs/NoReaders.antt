@@ -5,7 +5,9 @@ use Rattle.std.specs.Prelude.{not, ◌||◌}
 use Rattle.sat_base.specs.declared.name.Named.{Named}
 use Rattle.c_tree.specs.declared.expression.Expr.{Expr}
 use Rattle.c_tree.specs.declared.expression.UnaryMark.TheVariants as unary
-use Rattle.c_tree.specs.declared.place.Place.{Place}
+use Rattle.c_tree.specs.Depth.{depth_of_place}
+use Rattle.c_tree.specs.declared.expression.ExprKind.{more_of-Expr as boxed}
+use Rattle.c_tree.specs.declared.place.Place.{Place, Plain, Index', Index2', Deref}
 use Rattle.c_tree.specs.declared.place.Place.TheVariants as place
 use Rattle.c_reader.specs.declared.symbol.Symbol.{Symbol}
 use Rattle.c_reader.specs.declared.symbol.Symbol.TheVariants as symbol
@@ -20,13 +22,15 @@ use Rattle.c_reader.specs.Spots.{Spot}
 use Rattle.c_reader.specs.Stream.{ahead, refuse_at}
 use Rattle.c_reader.specs.Symbols.{same_symbol, begins_expression}
 use Rattle.c_reader.proofs.Indices.{some_expression, of_expression, of_named}
-use Rattle.c_reader.proofs.Leads.{lead, lead_ahead}
+use Rattle.c_reader.proofs.Begins.{begins_name, begins_place, spells_starts}
+use Rattle.c_reader.proofs.Chains.{chain_parts}
+use Rattle.c_reader.proofs.Depths.{spelled_depth}
 use Rattle.c_reader.proofs.Lower.{RightReaders}
 use Rattle.c_reader.proofs.Places.{of_place}
 use Rattle.c_reader.proofs.Rules.{token-ahead}
 use Rattle.c_reader.proofs.Right.{first, Ends, Stops, HasFront, Right, always}
 use Rattle.c_reader.proofs.Sequences.{from_token, from_node, from_nothing}
-use Rattle.c_reader.proofs.Stops.{stops_expression, stops_operand, ends_place, stops_place}
+use Rattle.c_reader.proofs.Stops.{stops_expression, stops_operand, stops_chain, ends_place, stops_place}
 use Rattle.c_reader.proofs.SymbolNumbers.{same-is, other-is}
 use Rattle.c_reader.proofs.Tokens.{ahead-same, no_name}
 
@@ -97,6 +101,18 @@ chain_front (suc k) f = spelling.broken_early rule.operand (chain_front k f)
 expression_front : (x : Spot) → begins_expression x.symbol ≡ true → (e : Expr) × (d : ℕ) × Front (node (a.expr e) ∷ []) d (x ∷ []) × (1 ≤ d)
 expression_front x is = let f = unary_front x.symbol x refl is in (f.0, f.1, spelling.broken_early rule.plain_expr (chain_front 9 f.2), f.3)
 
+place_some : (p : Place) → 1 ≤ depth_of_place p
+place_some (Plain name) = omega arith
+place_some (Index' name mark_at _ (boxed at brackets kind _)) = omega arith
+place_some (Index2' name first_at _ (boxed at brackets kind _) second_at _ (boxed at2 brackets2 kind2 _)) = omega arith
+place_some (Deref star_at name) = omega arith
+
+place_deep : {p : Place} {ps : List Part} {c : ℕ} {v : List Spot} → Spells (node (a.place p) ∷ ps) c v → 1 ≤ c
+place_deep {p} sp = omega (arith, spelled_depth sp, place_some p)
+
+named_deep : {p : Place} {ps : List Part} {c : ℕ} {v : List Spot} → Spells (node (a.named p) ∷ ps) c v → 1 ≤ c
+named_deep {p} sp = omega (arith, spelled_depth sp, place_some p)
+
 -- ---- the name was read already
 
 after_name : (p : Place) {early late : List Part} {c1 c2 : ℕ} (u1 u2 s r : List Spot) (x : Spot) → Rule (a.named p) early late → Spells early c1 u1 → Spells late c2 u2 → Stops stops_place p s → (u1 ++ u2) ++ s ≡ x ∷ r → ahead r ≢ symbol.End
@@ -149,25 +165,38 @@ no_indices x name is i ends false more = record {
 }
   where
     dead : (p : Place) (c : ℕ) (v s r : List Spot) → Spells (of_named p) c v → Stops stops_place p s → v ++ s ≡ x ∷ r → first r ≡ first i → 0 < c
-    dead p c v s r sp st e h = let f = lead sp refl in omega (arith, f.deep)
+    dead p c v s r sp st e h = named_deep sp
 
 -- ---- all of them
 
+expression_deep : {e : Expr} {ps : List Part} {c : ℕ} {v : List Spot} → Spells (node (a.expr e) ∷ ps) c v → 1 ≤ c
+expression_deep sp = omega (arith, spelled_depth sp)
+
+unary_deep : {e : Expr} {ps : List Part} {c : ℕ} {v : List Spot} → Spells (node (a.unary e) ∷ ps) c v → 1 ≤ c
+unary_deep sp = omega (arith, spelled_depth sp)
+
+chain_deep : {k : ℕ} {e : Expr} {ps : List Part} {c : ℕ} {v : List Spot} → Spells (node (a.chain k e) ∷ ps) c v → 1 ≤ c
+chain_deep sp = omega (arith, spelled_depth sp)
+
 no_expression_right : (i : List Spot) → Ends i → Right of_expression 0 stops_expression [] i (no_expression i)
 no_expression_right i ends = refuse_right of_expression stops_expression begins_expression some_expression refl
-    (λ e c v s sp. (lead_ahead s sp refl, (lead sp refl).deep)) expression_front i ends (begins_expression (ahead i)) refl
+    (λ e c v s sp. (spells_starts s sp, expression_deep sp)) expression_front i ends (begins_expression (ahead i)) refl
 
 no_unary_right : (i : List Spot) → Ends i → Right (λ (e : Expr). node (a.unary e) ∷ []) 0 stops_operand [] i (no_expression i)
 no_unary_right i ends = refuse_right (λ (e : Expr). node (a.unary e) ∷ []) stops_operand begins_expression some_expression refl
-    (λ e c v s sp. (lead_ahead s sp refl, (lead sp refl).deep)) (λ x is. unary_front x.symbol x refl is) i ends (begins_expression (ahead i)) refl
+    (λ e c v s sp. (spells_starts s sp, unary_deep sp)) (λ x is. unary_front x.symbol x refl is) i ends (begins_expression (ahead i)) refl
+
+pub no_chain_right : (k : ℕ) (i : List Spot) → Ends i → Right (chain_parts k) 0 (stops_chain k) [] i (no_expression i)
+no_chain_right k i ends = refuse_right (chain_parts k) (stops_chain k) begins_expression some_expression refl
+    (λ e c v s sp. (spells_starts s sp, chain_deep sp)) (λ x is. let f = unary_front x.symbol x refl is in (f.0, f.1, chain_front k f.2, f.3)) i ends (begins_expression (ahead i)) refl
 
 no_named_right : (i : List Spot) → Ends i → Right of_named 0 stops_place [] i (no_readers.named i)
 no_named_right i ends = refuse_right of_named stops_place (λ s. same_symbol s symbol.Name) some_place refl
-    (λ e c v s sp. (lead_ahead s sp refl, (lead sp refl).deep)) (λ x is. (place.Plain (named_spot x), 1, named_front x (same-is x.symbol symbol.Name is), omega arith)) i ends (same_symbol (ahead i) symbol.Name) refl
+    (λ e c v s sp. (spells_starts s sp, named_deep sp)) (λ x is. (place.Plain (named_spot x), 1, named_front x (same-is x.symbol symbol.Name is), omega arith)) i ends (same_symbol (ahead i) symbol.Name) refl
 
 no_indirection_right : (i : List Spot) → Ends i → ahead i ≡ symbol.Star → Right of_place 0 always [] i (no_readers.indirection i)
 no_indirection_right i ends is = refuse_right of_place always (λ s. same_symbol s symbol.Name || same_symbol s symbol.Star) some_place refl
-    (λ e c v s sp. (lead_ahead s sp refl, (lead sp refl).deep)) (λ x is. place_front x.symbol x refl is) i ends (same_symbol (ahead i) symbol.Star)
+    (λ e c v s sp. (spells_starts s sp, place_deep sp)) (λ x is. place_front x.symbol x refl is) i ends (same_symbol (ahead i) symbol.Star)
     (ap (λ (s : Symbol). same_symbol s symbol.Name || same_symbol s symbol.Star) is ∙ sym (ap (λ (s : Symbol). same_symbol s symbol.Star) is))
 
 pub no_readers_right : RightReaders 0 no_readers

@@ -22,7 +22,7 @@ use Rattle.c_reader.specs.Spelling.{Spells}
 use Rattle.c_reader.specs.Spots.{Spot}
 use Rattle.c_reader.specs.Stream.{ahead, Fault, ◌>>=◌}
 use Rattle.c_reader.proofs.Alternatives.{by_seen}
-use Rattle.c_reader.proofs.Beginnings.{begins_declarator, declarator_begins}
+use Rattle.c_reader.proofs.Begins.{begins_declarator, spells_starts}
 use Rattle.c_reader.proofs.Declarators.{spec, declarator_right}
 use Rattle.c_reader.proofs.Dependent.{then_right, then_read, seen_by}
 use Rattle.c_reader.proofs.Endings.{fused, word_after, then_word}
@@ -100,7 +100,7 @@ module _ (n : ℕ)
         subst (Right (λ (o : Objects). node (a.objects o) ∷ []) n always [] i) (sym (objects_are (specifiers_at i)))
         (by_seen (early_seen a.objects whole_parts n always always [] i whole_objects (λ x. rule.objects refl) which)
         (then_read {B = λ s. Decls} (specifiers_at i) (λ s j. declared_from n s (declarator_at n s j)))
-        (then_right (λ (s : Specifiers). node (specifiers_node s) ∷ []) decls_parts n (λ x s. no_int s) (λ s. always) (λ x y c v s sp st. declarator_no_int (ahead (v ++ s)) (declarator_begins s sp))
+        (then_right (λ (s : Specifiers). node (specifiers_node s) ∷ []) decls_parts n (λ x s. no_int s) (λ s. always) (λ x y c v s sp st. declarator_no_int (ahead (v ++ s)) (spells_starts s sp))
         any_decls (specifiers_at i) (λ s j. declared_from n s (declarator_at n s j)) [] i (specifiers_right n type_right i ends) (λ s j r. declared_right s j r.ends)))
       where
         which : (o : Objects) (early late : List Part) (c1 c2 : ℕ) (u1 u2 s r : List Spot) → Rule (a.objects o) early late → Spells early c1 u1 → Spells late c2 u2 → Stops always o s

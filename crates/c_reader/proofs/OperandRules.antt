@@ -24,7 +24,7 @@ use Rattle.c_reader.specs.Spots.{Spot}
 use Rattle.c_reader.specs.Stream.{ahead}
 use Rattle.c_reader.specs.Symbols.{same_symbol}
 use Rattle.c_reader.proofs.Arguments.{of_call}
-use Rattle.c_reader.proofs.Leads.{lead_ahead}
+use Rattle.c_reader.proofs.Begins.{spells_starts}
 use Rattle.c_reader.proofs.Places.{of_place}
 use Rattle.c_reader.proofs.Right.{Stops}
 use Rattle.c_reader.proofs.Rules.{Chosen, no_parts, token-ahead}
@@ -134,11 +134,11 @@ by_lead e u1 u2 s w (rule.read_overflow {at = at} same) sp1 sp2 eq =
     by_symbol symbol.Overflow (ahead w) e [] (kept symbol.Overflow at ∷ []) (sym (token-ahead s sp2) ∙ late_ahead u1 u2 s w sp1 eq)
     (record { x = at; same = same; is_early = refl; is_late = refl })
 by_lead e u1 u2 s w (rule.call_value {c = c} same) sp1 sp2 eq =
-    by_symbol symbol.Name (ahead w) e [] (node (a.call c) ∷ []) (sym (same-is (ahead (u2 ++ s)) symbol.Name (lead_ahead s sp2 refl)) ∙ late_ahead u1 u2 s w sp1 eq)
+    by_symbol symbol.Name (ahead w) e [] (node (a.call c) ∷ []) (sym (same-is (ahead (u2 ++ s)) symbol.Name (spells_starts s sp2)) ∙ late_ahead u1 u2 s w sp1 eq)
     (inl (record { x = c; same = same; is_early = refl; is_late = refl }))
 by_lead e u1 u2 s w (rule.read {p = p} same) sp1 sp2 eq =
     by_symbol (ahead (u2 ++ s)) (ahead w) e [] (node (a.place p) ∷ []) (late_ahead u1 u2 s w sp1 eq)
-    (lead_place (ahead (u2 ++ s)) e [] (node (a.place p) ∷ []) (lead_ahead s sp2 refl) (record { x = p; same = same; is_early = refl; is_late = refl }))
+    (lead_place (ahead (u2 ++ s)) e [] (node (a.place p) ∷ []) (spells_starts s sp2) (record { x = p; same = same; is_early = refl; is_late = refl }))
 
 -- ---- the second token
 

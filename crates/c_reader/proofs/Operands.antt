@@ -24,7 +24,7 @@ use Rattle.c_reader.specs.Stream.{ahead, here, rest, Fault, Parser, ◌>>=◌, b
 use Rattle.c_reader.specs.Symbols.{same_symbol, unary_mark, width_of, begins_type, begins_expression}
 use Rattle.c_reader.proofs.Arguments.{of_call, call_of, call_right}
 use Rattle.c_reader.proofs.Indices.{some_expression, of_expression, of_named}
-use Rattle.c_reader.proofs.Leads.{lead_ahead}
+use Rattle.c_reader.proofs.Begins.{spells_starts}
 use Rattle.c_reader.proofs.Looser.{done, same, loose, tighten, Seen-looser, seen_by, seen_twice}
 use Rattle.c_reader.proofs.Lower.{RightReaders}
 use Rattle.c_reader.proofs.OperandRules.{of_marked, marked, Casting, of_cast, cast_of, of_brackets, bracketed, of_number, numbered, of_overflow, overflow_of, calling, ByRule, chosen, ByLead, marked_lead, by_lead, after_token, call_second, place_second}
@@ -130,7 +130,7 @@ cast_choice e {early} {late} u1 u2 s r x is rule sp1 sp2 eq types = pick (open_l
     pick (inl k) = k
     pick (inr k) =
         let b = second u1 u2 s r x k.is_early k.is_late sp1 sp2 eq in
-        absurd (type_expression (ahead r) types (ap (λ (w : List Spot). begins_expression (ahead w)) (sym b.2) ∙ lead_ahead s b.1 refl))
+        absurd (type_expression (ahead r) types (ap (λ (w : List Spot). begins_expression (ahead w)) (sym b.2) ∙ spells_starts s b.1))
 
 -- brackets, where none is
 brackets_choice : (e : Expr) {early late : List Part} {c1 c2 : ℕ} (u1 u2 s r : List Spot) (x : Spot) → x.symbol ≡ symbol.OpenParen → Rule (a.unary e) early late → Spells early c1 u1 → Spells late c2 u2 → (u1 ++ u2) ++ s ≡ x ∷ r

@@ -23,10 +23,10 @@ use Rattle.c_reader.specs.Spots.{Spot}
 use Rattle.c_reader.specs.Stream.{ahead, here, rest, Fault, both, name_at}
 use Rattle.c_reader.specs.Symbols.{same_symbol, begins_type}
 use Rattle.c_reader.proofs.Alternatives.{by_seen, alternative, nothing_right, no_node, ends_after, ahead_is, follows_token, follows_nothing, after_word}
-use Rattle.c_reader.proofs.Beginnings.{early_ahead, early_token, type_begins, dimension_begins}
+use Rattle.c_reader.proofs.Begins.{dimension_begins, spells_starts, wrong}
 use Rattle.c_reader.proofs.Dependent.{then_right, then_read, seen_by, read_as}
 use Rattle.c_reader.proofs.Dimensions.{dimension_right}
-use Rattle.c_reader.proofs.Endings.{stricter, rule_ahead, rule_nothing}
+use Rattle.c_reader.proofs.Endings.{stricter, early_token, rule_ahead, rule_nothing}
 use Rattle.c_reader.proofs.Right.{first, Ends, Right, always}
 use Rattle.c_reader.proofs.Rules.{Chosen, no_parts, early_seen}
 use Rattle.c_reader.proofs.Sequences.{from_nothing}
@@ -89,9 +89,6 @@ type_no_int _ e = refl
 type_not_const : (s : Symbol) → begins_type s ≡ true → not_const s ≡ true
 type_not_const symbol.Const e = cc
 type_not_const _ e = refl
-
-pub wrong : (P : Symbol → Bool) (s t : Symbol) → P s ≡ true → s ≡ t → P t ≡ false → ⊥
-wrong P s t e f g = let h : P t ≡ true = ap P (sym f) ∙ e in cc
 
 -- ---- `const` before the type
 
@@ -203,24 +200,6 @@ with_tail x (no_view name dim) = param_of x.0 x.2 (x.1, x.3) false name dim
 abbrev pub no_view_of : Option Named × Option Dim → ParamTail
 no_view_of x = no_view x.0 x.1
 
--- what a parameter begins with
-abbrev pub begins_param : Symbol → Bool
-begins_param symbol.Const = true
-begins_param s = begins_type s
-
-type_param : (s : Symbol) → begins_type s ≡ true → begins_param s ≡ true
-type_param symbol.Const e = refl
-type_param _ e = e
-
-param_type_begins : {at t : At} {b : Bool} {x : Width} {ps : List Part} {c : ℕ} {w : List Spot} (s : List Spot) → Spells (node (a.param_type at t b x) ∷ ps) c w → begins_param (ahead (w ++ s)) ≡ true
-param_type_begins {w = w} s (whole {u1 = u1} {u2 = u2} {v = v} rule.param_type early late rest e _) = ap begins_param (early_ahead u1 u2 v w s e) ∙ type_param (ahead (u1 ++ (u2 ++ (v ++ s)))) (type_begins (u2 ++ (v ++ s)) early)
-param_type_begins {w = w} s (whole {u1 = u1} {u2 = u2} {v = v} rule.const_param_type early late rest e _) = ap begins_param (early_token u1 u2 v w s e early)
-
-pub param_begins : {p : Param} {ps : List Part} {c : ℕ} {w : List Spot} (s : List Spot) → Spells (node (a.param p) ∷ ps) c w → begins_param (ahead (w ++ s)) ≡ true
-param_begins {w = w} s (whole {u1 = u1} {u2 = u2} {v = v} (rule.number_param _) early late rest e _) = ap begins_param (early_ahead u1 u2 v w s e) ∙ param_type_begins (u2 ++ (v ++ s)) early
-param_begins {w = w} s (whole {u1 = u1} {u2 = u2} {v = v} (rule.view_param _) early late rest e _) = ap begins_param (early_ahead u1 u2 v w s e) ∙ param_type_begins (u2 ++ (v ++ s)) early
-param_begins {w = w} s (whole {u1 = u1} {u2 = u2} {v = v} (rule.array_param _) early late rest e _) = ap begins_param (early_ahead u1 u2 v w s e) ∙ param_type_begins (u2 ++ (v ++ s)) early
-
 module _ (n : ℕ)
     (type_right : (i : List Spot) → Ends i → Right (λ (x : At × Width). node (a.type_ x.0 x.1) ∷ []) n (λ x s. no_int s) [] i (type_at i))
     (expression_right : (i : List Spot) → Ends i → Right (λ (e : Expr). node (a.expr e) ∷ []) n stops_expression [] i (expression_at n i)) where
@@ -231,7 +210,7 @@ module _ (n : ℕ)
   param_type_right i ends =
       by_seen (early_seen param_type_node const_and_type n (λ x s. no_int s) (λ x s. no_int s) [] i param_typed by_rule (λ x. which x.0 x.1 x.2 x.3))
       (then_read {B = λ c. At × Width} (read_as (const_of i) (passed symbol.Const i)) (λ c. type_at))
-      (then_right const_parts (λ c. type_parts) n (λ x s. not_const s) (λ c x s. no_int s) (λ q x c v s sp st. type_not_const (ahead (v ++ s)) (type_begins s sp)) (λ c. (nowhere, W16))
+      (then_right const_parts (λ c. type_parts) n (λ x s. not_const s) (λ c x s. no_int s) (λ q x c v s sp st. type_not_const (ahead (v ++ s)) (spells_starts s sp)) (λ c. (nowhere, W16))
       (read_as (const_of i) (passed symbol.Const i)) (λ c. type_at) [] i (const_right n i ends) (λ q j r. type_right j r.ends))
     where
       by_rule : (x : Option At × (At × Width)) → Rule (param_type_node (param_typed x)) (const_and_type x) []

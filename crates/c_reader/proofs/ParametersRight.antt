@@ -25,7 +25,8 @@ use Rattle.c_reader.proofs.Alternatives.{by_seen, nothing_right, no_node, ends_a
 use Rattle.c_reader.proofs.Dependent.{then_right, then_read, seen_by, read_as}
 use Rattle.c_reader.proofs.Endings.{rule_ahead, rule_nothing}
 use Rattle.c_reader.proofs.Listed.{ends_list, front_of, listed_as}
-use Rattle.c_reader.proofs.Parameters.{ends_param, param_begins, begins_param, ParamType, ParamTail, a_view, no_view, tail_parts, tail_ahead, type_no_int, with_tail, param_typed, param_type_parts, read_param_type, no_view_of, read_tail, param_type_right, tail_right, wrong}
+use Rattle.c_reader.proofs.Begins.{begins_param, spells_starts, wrong}
+use Rattle.c_reader.proofs.Parameters.{ends_param, ParamType, ParamTail, a_view, no_view, tail_parts, tail_ahead, type_no_int, with_tail, param_typed, param_type_parts, read_param_type, no_view_of, read_tail, param_type_right, tail_right}
 use Rattle.c_reader.proofs.Right.{first, Ends, Stops, Right, always}
 use Rattle.c_reader.proofs.Rules.{Chosen, no_parts, early_seen}
 use Rattle.c_reader.proofs.Sequences.{from_nothing}
@@ -155,7 +156,7 @@ module _ (n : ℕ)
       which x early late c1 c2 u1 u2 s r rule.no_params sp sq st eq h = record { a = tt; same = refl; is_early = refl; is_late = refl; stops = refl }
       which x early late c1 c2 u1 u2 s r rule.void_params sp sq st eq h = let f : symbol.CloseParen ≡ symbol.Void = sym is ∙ rule_ahead u1 u2 s r i sp eq h in absurd (cc)
       which x early late c1 c2 u1 u2 s r rule.params sp sq st eq h =
-          absurd (wrong begins_param (ahead (u1 ++ (u2 ++ s))) symbol.CloseParen (param_begins (u2 ++ s) sp) (ap ahead (sym (append_assoc u1 u2 s)) ∙ ap ahead eq ∙ ahead-same r i h ∙ is) refl)
+          absurd (wrong begins_param (ahead (u1 ++ (u2 ++ s))) symbol.CloseParen (spells_starts (u2 ++ s) sp) (ap ahead (sym (append_assoc u1 u2 s)) ∙ ap ahead eq ∙ ahead-same r i h ∙ is) refl)
 
   void : (c : Spot) (cs : List Spot) → Ends (c ∷ cs) → c.symbol ≡ symbol.Void → Right params_node n stops_params [] (c ∷ cs) (Ok ([], cs))
   void c cs ends is =
@@ -169,7 +170,7 @@ module _ (n : ℕ)
           let f : symbol.CloseParen ≡ symbol.Void = sym (same-is (ahead s) symbol.CloseParen st) ∙ ap ahead (rule_nothing u1 u2 s r sp sq eq) ∙ ahead-same r (c ∷ cs) h ∙ is in absurd (cc)
       which x early late c1 c2 u1 u2 s r rule.void_params sp sq st eq h = record { a = tt; same = refl; is_early = refl; is_late = refl; stops = refl }
       which x early late c1 c2 u1 u2 s r rule.params sp sq st eq h =
-          absurd (wrong begins_param (ahead (u1 ++ (u2 ++ s))) symbol.Void (param_begins (u2 ++ s) sp) (ap ahead (sym (append_assoc u1 u2 s)) ∙ ap ahead eq ∙ ahead-same r (c ∷ cs) h ∙ is) refl)
+          absurd (wrong begins_param (ahead (u1 ++ (u2 ++ s))) symbol.Void (spells_starts (u2 ++ s) sp) (ap ahead (sym (append_assoc u1 u2 s)) ∙ ap ahead eq ∙ ahead-same r (c ∷ cs) h ∙ is) refl)
 
   listed : (i : List Spot) → Ends i → ahead i ≢ symbol.CloseParen → ahead i ≢ symbol.Void → Right params_node n stops_params [] i (listed_params_at n i)
   unfolding listed_params_at

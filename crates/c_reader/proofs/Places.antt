@@ -19,7 +19,7 @@ use Rattle.c_reader.specs.Spots.{Spot}
 use Rattle.c_reader.specs.Stream.{ahead, Fault, Parser, ◌>>=◌, both, mapped, take_at, name_at}
 use Rattle.c_reader.specs.Symbols.{same_symbol}
 use Rattle.c_reader.proofs.Indices.{ReadsExpressions, of_named, tail_at, tail_right, of_tail, stops_tail, of_called, of_place_parts, place_of_pair, place_rule, place_choice, indices_is}
-use Rattle.c_reader.proofs.Leads.{lead_ahead}
+use Rattle.c_reader.proofs.Begins.{spells_starts}
 use Rattle.c_reader.proofs.Looser.{seen_by, seen_twice}
 use Rattle.c_reader.proofs.Lower.{RightReaders, Right-stops}
 use Rattle.c_reader.proofs.Right.{first, Ends, Stops, Right, always}
@@ -64,7 +64,7 @@ deref_choice : (p : Place) {early late : List Part} {c1 : ℕ} (u1 u2 s r i : Li
     → (u1 ++ u2) ++ s ≡ r → first r ≡ first i → Chosen no_parts (both_parts of_star of_called) (both_stops always) deref_of p early late s
 deref_choice p u1 u2 s r i (rule.deref {star_at = at} {name = name} e) sp is eq h = record { a = (at, name); same = e; is_early = refl; is_late = refl; stops = refl }
 deref_choice p u1 u2 s r i rule.place_named sp is eq h =
-    let no : same_symbol (ahead (u1 ++ (u2 ++ s))) symbol.Name ≡ true = lead_ahead (u2 ++ s) sp refl in
+    let no : same_symbol (ahead (u1 ++ (u2 ++ s))) symbol.Name ≡ true = spells_starts (u2 ++ s) sp in
     let it : ahead (u1 ++ (u2 ++ s)) ≡ symbol.Star = ap ahead (sym (append_assoc u1 u2 s) ∙ eq) ∙ ahead-same r i h ∙ is in
     let never : same_symbol symbol.Star symbol.Name ≡ true = ap (λ (t : Symbol). same_symbol t symbol.Name) (sym it) ∙ no in
     cc

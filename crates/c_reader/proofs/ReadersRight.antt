@@ -11,8 +11,7 @@ use Rattle.c_reader.proofs.ExpressionStep.{expression_step}
 use Rattle.c_reader.proofs.ExpressionsRight.{expr_parts, chain_right}
 use Rattle.c_reader.proofs.Lower.{RightReaders}
 use Rattle.c_reader.proofs.NextReaders.{next_readers_right}
-use Rattle.c_reader.proofs.NoExpressions.{no_chain_right}
-use Rattle.c_reader.proofs.NoReaders.{no_readers_right}
+use Rattle.c_reader.proofs.NoReaders.{no_chain_right, no_readers_right}
 use Rattle.c_reader.proofs.Operands.{next_unary_right}
 use Rattle.c_reader.proofs.Right.{Ends, Right}
 use Rattle.c_reader.proofs.Stops.{stops_chain, stops_expression}

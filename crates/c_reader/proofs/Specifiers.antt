@@ -20,7 +20,7 @@ use Rattle.c_reader.specs.Spots.{Spot}
 use Rattle.c_reader.specs.Stream.{ahead, here, rest, Fault}
 use Rattle.c_reader.specs.Symbols.{same_symbol, width_of, begins_type}
 use Rattle.c_reader.proofs.Alternatives.{by_seen, alternative, nothing_right, ends_after, ahead_is, token_then, after_word}
-use Rattle.c_reader.proofs.Beginnings.{type_begins}
+use Rattle.c_reader.proofs.Begins.{spells_starts}
 use Rattle.c_reader.proofs.Dependent.{then_right, then_read, seen_by}
 use Rattle.c_reader.proofs.Endings.{fused}
 use Rattle.c_reader.proofs.Right.{first, Ends, Stops, Right}
@@ -247,7 +247,7 @@ module _ (n : ℕ) (type_right : (i : List Spot) → Ends i → Right (λ (x : A
       subst (Right (λ (s : Specifiers). node (a.specifiers s.quals.at s.quals.is_static s.quals.is_const s.width) ∷ []) n (λ x s. no_int s) [] i) (sym (specifiers_are i))
       (by_seen (early_seen specifiers_node quals_and_type n (λ x s. no_int s) (λ x s. no_int s) [] i specified_by (λ x. specifiers_rule x.0 x.1) (λ s. which s.quals.at s.quals.is_static s.quals.is_const s.width))
       (then_read {B = λ q. At × Width} (read_quals i) (λ q. type_at))
-      (then_right quals_parts (λ q. type_parts) n stops_quals (λ q x s. no_int s) (λ q x c v s sp st. type_no_qualifier (ahead (v ++ s)) (type_begins s sp)) (λ q. any) (read_quals i) (λ q. type_at) [] i (quals_right n i ends)
+      (then_right quals_parts (λ q. type_parts) n stops_quals (λ q x s. no_int s) (λ q x c v s sp st. type_no_qualifier (ahead (v ++ s)) (spells_starts s sp)) (λ q. any) (read_quals i) (λ q. type_at) [] i (quals_right n i ends)
       (λ q j r. type_right j r.ends)))
     where
       any : At × Width

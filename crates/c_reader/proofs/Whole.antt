@@ -12,12 +12,12 @@ use Rattle.c_reader.specs.declared.symbol.Symbol.{Symbol}
 use Rattle.c_reader.specs.declared.symbol.Symbol.TheVariants as symbol
 use Rattle.c_reader.specs.Nodes as a
 use Rattle.c_reader.specs.Parts.{Part, each}
-use Rattle.c_reader.specs.Programs.{SpellsItems, FrontSpells, Through, place_of, stream_of, IsSyntaxFault, IsTooDeep}
+use Rattle.c_reader.specs.Programs.{SpellsItems, FrontSpells, DepthsAreThoseOfTrees, Through, place_of, stream_of, IsSyntaxFault, IsTooDeep}
 use Rattle.c_reader.specs.Spelling as parts
 use Rattle.c_reader.specs.Spots.{Spot, spots_of, end_of}
 use Rattle.c_reader.specs.Stream.{ahead, here, Fault}
 use Rattle.c_reader.specs.Symbols.{same_symbol}
-use Rattle.c_reader.proofs.Depths.{program_depth}
+use Rattle.c_reader.proofs.Depths.{program_depth, whole_front}
 use Rattle.c_reader.proofs.Numbers.{length-spots, number-here, only-end, begins-alike, drop-length, take-length}
 use Rattle.c_reader.proofs.Right.{first_only, Ends, Read, Bad, Refused, Right}
 
@@ -122,6 +122,15 @@ module _ (tokens : Tokens) (n : ℕ) where
   all_read x j q is =
       let o = only-end tokens.text 0 tokens.list (end_of tokens) q.more j q.whole is q.ends in
       subst (λ (w : List Spot). parts.Spells (items_parts x) q.depth w) o.0 q.spelled
+
+-- ---- depth
+
+pub depths_of_trees : DepthsAreThoseOfTrees
+depths_of_trees program tokens s =
+    let some = some_of program.items s.some in
+    let depth = program_depth program.items s.spelled in
+    let spelled = subst (λ (items : List Item). parts.Spells (each a.item items) s.depth tokens) some.same s.spelled in
+    (depth, record { item = some.x; items = some.xs; front = subst (λ (d : ℕ). parts.Front (each a.item (some.x ∷ some.xs)) d tokens) depth (whole_front spelled) })
 
 -- ---- at most one tree
 

@@ -32,6 +32,10 @@ pub record FrontSpells (depth : ℕ) (tokens : List Spot) : Type 0 where
   pub items : List Item
   pub front : parts.Front (each a.item (item ∷ items)) depth tokens
 
+-- a program that is spelled is as deep as its tree, and a whole front of itself
+abbrev pub DepthsAreThoseOfTrees : Type 0
+DepthsAreThoseOfTrees = (program : Program) (tokens : List Spot) (spelled : SpellsItems program tokens) → (spelled.depth ≡ depth_of program) × FrontSpells (depth_of program) tokens
+
 -- the tokens, and the end after the last one
 abbrev pub stream_of : Tokens → List Spot
 stream_of tokens = spots_of tokens ++ end_of tokens ∷ []

@@ -16,9 +16,6 @@ mod spot;
 mod statement;
 pub mod symbol;
 
-pub use laws::one_tree;
+pub use laws::{depths_of_trees, one_tree};
 pub use program::read;
 pub use refusal::ReadRefusal;
-
-#[cfg(test)]
-mod tests;

@@ -98,9 +98,9 @@ impl Reader<'_> {
     }
 }
 
-/// The tree that the tokens spell, which are at most 131,072 and lie in their text. It is refused where they
-/// spell none whose depth is at most 64: at the first token that no source has there, or at one with which
-/// the tree becomes too deep.
+/// The tree that the tokens spell, which are at most 131,072 and lie in their text. Tokens that spell none whose
+/// depth is at most 64 are refused: at a token with which they begin no source, where a front of some tree spells
+/// those before it, or at one with which they begin no source whose tree is within the depth.
 pub fn read(alloc: Global, tokens: &Tokens) -> Result<Program, ReadRefusal>
     requires few { length tokens.now.list ≤ TOKENS }
     requires within { All (LiesIn tokens.now.text) tokens.now.list }

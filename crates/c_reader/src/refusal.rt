@@ -6,11 +6,12 @@ use std::alloc::AllocError;
 /// Why tokens are not read into a tree.
 #[derive(Clone, Copy, Debug, PartialEq, Eq)]
 pub enum ReadRefusal {
-    /// The tokens before this one begin some source, and with this one they begin none. Its number may be that
-    /// of all tokens; then they are no whole source, and the place is that after the last byte.
+    /// A front of some tree spells the tokens before this one, and with this one they begin no source. Its number may
+    /// be that of all tokens; then they are no whole source, and the place is that after the last byte.
     Syntax { tok: u32, pos: Pos },
-    /// The tokens up to this one begin no source whose tree is within the depth that is allowed, and the tree
-    /// that they begin is deeper.
+    /// The tokens up to this one begin no source whose tree is within the depth that is allowed, and a front of some
+    /// tree that spells them, with this one or without it, is deeper. Where the tokens break the grammar too, either
+    /// may be told.
     TooDeep { tok: u32, pos: Pos },
     /// Want of memory.
     Memory,

@@ -10,7 +10,7 @@ use c_tree::{AssignMark, BinaryMark, UnaryMark};
 use sat_base::Width;
 
 /// What a token is to the grammar.
-#[derive(Clone, Copy, Debug, PartialEq, Eq)]
+#[derive(Clone, Copy)]
 pub enum Symbol {
     /// A word that is neither reserved nor defined.
     Name,

@@ -10,7 +10,7 @@ use sqlite_items::Items;
 
 /// A call of a function or of an operator (C90, 6.3.2.2).
 #[cycle(expression)]
-#[derive(Debug, Drop)]
+#[derive(Drop)]
 pub struct Call {
     /// The called name, which is the first token of the call.
     pub name: Named,
@@ -19,7 +19,7 @@ pub struct Call {
 
 /// An argument of a call, or the one value that an object starts with.
 #[cycle(expression)]
-#[derive(Debug, Drop)]
+#[derive(Drop)]
 pub enum Arg {
     /// An expression.
     Value(Expr),

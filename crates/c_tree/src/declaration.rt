@@ -6,7 +6,7 @@ use sat_base::{At, Named, Width};
 use sqlite_items::Items;
 
 /// One declaration of objects: qualifiers, a type, and the declarators between the commas, up to its `;`.
-#[derive(Debug, Drop)]
+#[derive(Drop)]
 pub struct Objects {
     /// Its first token, which is a qualifier or the type.
     pub at: At,
@@ -15,7 +15,7 @@ pub struct Objects {
 }
 
 /// A declared object: a scalar, an array of one or two dimensions, or a view, `* name`.
-#[derive(Debug, Drop)]
+#[derive(Drop)]
 pub struct Decl {
     /// The first token of its declarator, which is the name, or the `*` before it.
     pub at: At,
@@ -36,7 +36,7 @@ pub struct Decl {
 }
 
 /// A pair of square brackets in a declarator.
-#[derive(Debug, Drop)]
+#[derive(Drop)]
 pub struct Dim {
     /// The `[`.
     pub at: At,
@@ -45,7 +45,7 @@ pub struct Dim {
 }
 
 /// What a declared object starts with (C90, 6.5.7).
-#[derive(Debug, Drop)]
+#[derive(Drop)]
 pub enum Init {
     /// No initialiser.
     Nothing,
@@ -58,7 +58,7 @@ pub enum Init {
 }
 
 /// A row of an initialiser: `{ .. }` in its braces.
-#[derive(Debug, Drop)]
+#[derive(Drop)]
 pub struct Row {
     /// Its values, in order.
     pub values: Items<Expr>,

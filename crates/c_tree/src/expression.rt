@@ -11,7 +11,7 @@ use std::alloc::Global;
 
 /// An expression (C90, 6.3).
 #[cycle(expression)]
-#[derive(Debug, Drop)]
+#[derive(Drop)]
 pub struct Expr {
     /// Its first token. The brackets around it are part of it.
     pub at: At,
@@ -119,7 +119,7 @@ impl Expr {
 
 /// What an expression is, but for the brackets around it.
 #[cycle(expression)]
-#[derive(Debug, Drop)]
+#[derive(Drop)]
 pub enum ExprKind {
     /// A number, by its value.
     Int(i32),

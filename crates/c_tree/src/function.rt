@@ -6,7 +6,7 @@ use sat_base::{At, Named, Width};
 use sqlite_items::Items;
 
 /// A function, declared or defined.
-#[derive(Debug, Drop)]
+#[derive(Drop)]
 pub struct Function {
     /// Its first token, which is `static`, the type or `void`.
     pub at: At,
@@ -22,7 +22,7 @@ pub struct Function {
 }
 
 /// A parameter of a function: a number, or a view, `* name` or `name [ .. ]`.
-#[derive(Debug, Drop)]
+#[derive(Drop)]
 pub struct Param {
     /// Its first token, which is `const` or the type.
     pub at: At,

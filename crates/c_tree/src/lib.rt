@@ -20,6 +20,3 @@ pub use place::Place;
 pub use program::{Item, Program};
 pub use simple::{AssignMark, Simple};
 pub use statement::{Block, Stmt};
-
-#[cfg(test)]
-mod tests;

@@ -10,7 +10,7 @@ use std::alloc::Global;
 
 /// An object or a part of it, as it is read, written or stepped, or as its address is taken.
 #[cycle(expression)]
-#[derive(Debug, Drop)]
+#[derive(Drop)]
 pub enum Place {
     /// `name`
     Plain {

@@ -9,7 +9,7 @@ use sat_base::{At, Pos};
 use sqlite_items::Items;
 
 /// A whole source.
-#[derive(Debug, Drop)]
+#[derive(Drop)]
 pub struct Program {
     /// What it declares and defines, in order. There is at least one item in what the grammar gives.
     pub items: Items<Item>,
@@ -20,7 +20,7 @@ pub struct Program {
 }
 
 /// A declaration or a definition at file scope.
-#[derive(Debug, Drop)]
+#[derive(Drop)]
 pub enum Item {
     /// Objects at file scope.
     Objects(Objects),

@@ -11,7 +11,7 @@ use sqlite_items::Boxed;
 use std::alloc::Global;
 
 /// What stands before a `;` and between the `;` of a `for`. It is no node of its own.
-#[derive(Debug, Drop)]
+#[derive(Drop)]
 pub enum Simple {
     /// `place mark value` (C90, 6.3.16).
     Assign {

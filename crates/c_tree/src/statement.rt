@@ -12,7 +12,7 @@ use std::alloc::Global;
 
 /// `{ .. }`: objects, and then statements (C90, 6.6.2).
 #[cycle(statement)]
-#[derive(Debug, Drop)]
+#[derive(Drop)]
 pub struct Block {
     /// The `{`.
     pub at: At,
@@ -24,7 +24,7 @@ pub struct Block {
 
 /// A statement (C90, 6.6).
 #[cycle(statement)]
-#[derive(Debug, Drop)]
+#[derive(Drop)]
 pub enum Stmt {
     /// `;`
     Empty {

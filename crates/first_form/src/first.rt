@@ -4,13 +4,13 @@ use sat_base::Pos;
 use sqlite_items::{Boxed, Items};
 
 /// A source of the first form: what its `main` writes, in order.
-#[derive(Debug, Drop)]
+#[derive(Drop)]
 pub struct First {
     pub outs: Items<FirstExpr>,
 }
 
 /// An expression of the first form.
-#[derive(Debug, Drop)]
+#[derive(Drop)]
 pub enum FirstExpr {
     /// A number from 0 to 32767.
     Int(i32),

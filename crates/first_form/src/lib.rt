@@ -9,6 +9,3 @@ mod laws;
 pub use first::{First, FirstExpr};
 pub use form::first_of;
 pub use laws::{at_most_one, operands, shallow};
-
-#[cfg(test)]
-mod tests;

@@ -1,7 +1,7 @@
 use Rattle.std.proofs.Common.{refl, sym, subst, ◌∙◌, arith}
 use Rattle.std.proofs.lemmas.Result.{err_from_is_err_and}
 use Rattle.c_lexer.proofs.Cutting.{Reached, reached_start, step_to, reached_end, refused_at, cut_whole}
-use Rattle.c_lexer.proofs.Spans.{list_few, list_within, list_ordered}
+use Rattle.c_lexer.proofs.Spans.{list_few, list_within, list_filled, list_ordered}
 use Rattle.c_lexer.proofs.lexer.tokens.Goals as goal
 
 pub loop-at-init : goal.loop-at-init
@@ -42,3 +42,8 @@ pub returns-clause-ordered : goal.returns-clause-ordered
 returns-clause-ordered c =
     let all = reached_end c.args.text.now c.loop-at.lexer c.loop-at.at.at c.loop-at.invariant.reached (omega (arith, c.loop-at-test.false)) in
     list_ordered c.args.text.now c.loop-at.lexer.list all.1
+
+pub returns-clause-filled : goal.returns-clause-filled
+returns-clause-filled c =
+    let all = reached_end c.args.text.now c.loop-at.lexer c.loop-at.at.at c.loop-at.invariant.reached (omega (arith, c.loop-at-test.false)) in
+    list_filled c.args.text.now c.loop-at.lexer.list all.1
