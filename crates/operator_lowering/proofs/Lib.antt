@@ -1,0 +1,4 @@
+pub mod Effects
+pub mod Names
+pub mod Renamed
+pub mod Steps

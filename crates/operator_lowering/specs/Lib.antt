@@ -1,0 +1,4 @@
+pub mod Courses
+pub mod Parts
+pub mod Renamed
+pub mod Renaming
