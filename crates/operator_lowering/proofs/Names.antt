@@ -1,7 +1,7 @@
 -- The registers of a site do not meet where a course knows their values.
-use Rattle.std.proofs.Common.{◌≡◌, ◌≢◌, ℕ, ◌<◌, ◌≤◌, ◌⊎◌, true, false, ◌&&◌, ◌==◌, inl, inr, sym, ap, ◌∙◌, arith, ⊎_elim}
+use Rattle.std.proofs.Common.{◌≡◌, ◌≢◌, ℕ, ◌<◌, ◌≤◌, ◌⊎◌, Bool, true, false, not, ◌&&◌, ◌==◌, inl, inr, refl, sym, ap, ◌∙◌, arith, ⊎_elim}
 use Rattle.std.proofs.lemmas.Bool.{eqb-true, or_cases}
-use Rattle.operator_lowering.specs.Courses.{is_shared, is_free, is_writable}
+use Rattle.operator_lowering.specs.Courses.{is_shared, is_call, may_be_one, is_free, is_writable}
 use Rattle.operator_lowering.specs.Renamed.{is_named}
 use Rattle.operator_lowering.specs.Renaming.{Registers, AreInRange, renamed}
 
@@ -36,8 +36,26 @@ free_outside regs n free =
     let is = stay.0 in
     ⊎_elim (λ (below : n < 8). inl (omega arith)) (λ (above : 23 < n). inr (omega arith)) stay.1
 
+call_stays : (regs : Registers) (n : ℕ) → is_call n ≡ true → renamed regs n ≡ n
+call_stays regs n call =
+    ⊎_elim
+    (λ (ten : (n == 10) ≡ true). let is = eqb-true n 10 ten in ap (renamed regs) is ∙ sym is)
+    (λ (seventeen : (n == 17) ≡ true). let is = eqb-true n 17 seventeen in ap (renamed regs) is ∙ sym is)
+    (or_cases (n == 10) (n == 17) call)
+
+both_calls : (a b c : Bool) → a ≡ true → b ≡ true → (a && b && not c) ≡ false → c ≡ true
+both_calls true true true e f g = refl
+both_calls true true false e f g = absurd (let h = g in cc)
+both_calls true false c e f g = absurd (let h = f in cc)
+both_calls false b c e f g = absurd (let h = e in cc)
+
+pub and_parts_true : (a b : Bool) → (a && b) ≡ true → (a ≡ true) × (b ≡ true)
+and_parts_true true true e = (refl, refl)
+and_parts_true true false e = absurd (let f = e in cc)
+and_parts_true false b e = absurd (let f = e in cc)
+
 -- what a course still knows after a write is in another register
-pub known_apart : (regs : Registers) → AreInRange regs → (n rd : ℕ) → is_named n ≡ true → is_writable rd ≡ true → n ≢ rd → (is_shared rd && is_shared n) ≡ false
+pub known_apart : (regs : Registers) → AreInRange regs → (n rd : ℕ) → is_named n ≡ true → is_writable rd ≡ true → n ≢ rd → may_be_one rd n ≡ false
     → renamed regs n ≢ renamed regs rd
 known_apart regs range n rd named writable other unshared =
     ⊎_elim
@@ -45,7 +63,10 @@ known_apart regs range n rd named writable other unshared =
     ⊎_elim
     (λ (n_shared : is_shared n ≡ true).
     ⊎_elim
-    (λ (rd_shared : is_shared rd ≡ true). absurd (let both : (is_shared rd && is_shared n) ≡ true = ap (λ b. b && is_shared n) rd_shared ∙ n_shared in let none = unshared in cc))
+    (λ (rd_shared : is_shared rd ≡ true). λ same.
+    let calls = both_calls (is_shared rd) (is_shared n) (is_call rd && is_call n) rd_shared n_shared unshared in
+    let are = and_parts_true (is_call rd) (is_call n) calls in
+    other (sym (call_stays regs n are.1) ∙ same ∙ call_stays regs rd are.0))
     (λ (rd_free : is_free rd ≡ true). shared_apart regs range n rd n_shared (free_outside regs rd rd_free))
     (or_cases (is_shared rd) (is_free rd) writable))
     (λ (n_free : is_free n ≡ true).

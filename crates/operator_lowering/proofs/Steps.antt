@@ -11,7 +11,7 @@ use Rattle.rv_encode.specs.State.{MachineState, Moment, Running, Over, Stopped, 
 use Rattle.rv_encode.specs.Effects.{sets, jumps, goes_on, takes, left_flag, calls}
 use Rattle.rv_encode.specs.Runs.{pc_of}
 use Rattle.rv_encode.proofs.Places.{most_words, next_pc_of, target_pc_of, whole_pc_of}
-use Rattle.operator_lowering.specs.Courses.{Course, Step, Goes, Stops, Lost, is_shared, is_writable, known_after, sets_value, jumps_by, takes_sample, call_of, step_of}
+use Rattle.operator_lowering.specs.Courses.{Course, Step, Goes, Stops, Lost, may_be_one, is_writable, known_after, sets_value, jumps_by, takes_sample, call_of, step_of}
 use Rattle.operator_lowering.specs.Parts.{Part, Sets, Jumps, Calls, Other}
 use Rattle.operator_lowering.specs.Renamed.{IsAt, IsThere, is_named}
 use Rattle.operator_lowering.specs.Renaming.{Registers, AreInRange, renamed}
@@ -38,12 +38,12 @@ not_same : (n rd : ℕ) → n ≢ rd → (n == rd) ≡ false
 not_same n rd other = ⊎_elim (λ (is : (n == rd) ≡ true). absurd (other (eqb-true n rd is))) (λ no. no) (cases_Bool (n == rd))
 
 -- what is known of another register was known before, and is not shared
-known_before : (known : ℕ → Bool) (rd n : ℕ) → n ≢ rd → known_after known rd n ≡ true → (known n ≡ true) × ((is_shared rd && is_shared n) ≡ false)
+known_before : (known : ℕ → Bool) (rd n : ℕ) → n ≢ rd → known_after known rd n ≡ true → (known n ≡ true) × ((may_be_one rd n) ≡ false)
 known_before known rd n other now =
     ⊎_elim
     (λ (is : (n == rd) ≡ true). absurd (other (eqb-true n rd is)))
-    (λ (rest : (known n && not (is_shared rd && is_shared n)) ≡ true). both (known n) (is_shared rd && is_shared n) rest)
-    (or_cases (n == rd) (known n && not (is_shared rd && is_shared n)) now)
+    (λ (rest : (known n && not (may_be_one rd n)) ≡ true). both (known n) (may_be_one rd n) rest)
+    (or_cases (n == rd) (known n && not (may_be_one rd n)) now)
   where
     both : (a b : Bool) → (a && not b) ≡ true → (a ≡ true) × (b ≡ false)
     both true false e = (refl, refl)

@@ -25,6 +25,14 @@ pub data Step : Type 0 where
 abbrev pub is_shared : ℕ → Bool
 is_shared number = (number == 8) || (number == 11) || (number == 12) || (number == 13) || (number == 10) || (number == 17)
 
+-- the registers of an environment call, which are two
+abbrev pub is_call : ℕ → Bool
+is_call number = (number == 10) || (number == 17)
+
+-- two of those registers may be one
+abbrev pub may_be_one : (left right : ℕ) → Bool
+may_be_one left right = is_shared left && is_shared right && not (is_call left && is_call right)
+
 -- other registers, which are the same for each site
 abbrev pub is_free : ℕ → Bool
 is_free number = (nat_lt 0 number && nat_lt number 8) || (nat_lt 23 number && nat_lt number 32)
@@ -35,7 +43,7 @@ is_writable number = is_shared number || is_free number
 
 -- what is known after a write: of registers that may be one with it, only that one
 abbrev pub known_after : (ℕ → Bool) → (rd : ℕ) → ℕ → Bool
-known_after known rd number = (number == rd) || (known number && not (is_shared rd && is_shared number))
+known_after known rd number = (number == rd) || (known number && not (may_be_one rd number))
 
 abbrev pub value_after : (ℕ → ℤ) → (rd : ℕ) → ℤ → ℕ → ℤ
 value_after value rd result number = if number == rd then result else value number
