@@ -1,7 +1,7 @@
 -- How a machine's run goes from moment to moment.
-use Rattle.std.proofs.Common.{◌≡◌, ℕ, ◌+◌, ◌-◌, ◌<◌, ◌≤◌, ℤ, List, [], ◌∷◌, ◌++◌, refl, sym, ap, ◌∙◌, ⊎_elim, arith, append-nil, Option, None}
+use Rattle.std.proofs.Common.{◌≡◌, ℕ, ◌+◌, ◌-◌, ◌<◌, ◌≤◌, ℤ, List, [], ◌++◌, refl, sym, ap, ◌∙◌, ⊎_elim, arith, append-nil, Option, None}
 use Rattle.std.proofs.lemmas.Bool.{cases_lt}
-use Rattle.rv_encode.specs.State.{MachineState, Moment, Running, Over}
+use Rattle.rv_encode.specs.State.{Running, Over}
 use Rattle.rv_encode.specs.Runs.{moment_after, next_moment, stepped}
 use Rattle.rv_encode.proofs.Runs.{moment_after_more}
 use Rattle.rv_emulator.specs.declared.state.Hart.{Hart}

@@ -1,3 +1,4 @@
+pub mod After
 pub mod Endings
 pub mod Pauses
 pub mod Steps

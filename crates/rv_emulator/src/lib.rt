@@ -5,6 +5,7 @@
 mod arithmetic;
 mod calls;
 mod effects;
+pub mod laws;
 pub mod machine;
 pub mod memory;
 pub mod pause;

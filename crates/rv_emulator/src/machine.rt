@@ -1,7 +1,8 @@
 // The machine, which runs an image.
 
-ghost use Rattle.std.specs.Prelude.{◌≡◌, ◌-◌, ◌≤◌, ◌<◌, List, IfOk};
-ghost use Rattle.rv_emulator.specs.Pauses.{IsRun, loaded_with};
+ghost use Rattle.std.specs.Prelude.{◌≡◌, ◌-◌, [], IfOk};
+ghost use Rattle.rv_emulator.specs.After.{GoesOn, IsAfter};
+ghost use Rattle.rv_emulator.specs.Pauses.{IsRun, loaded_with, samples_of};
 
 use crate::effects::Step;
 use crate::memory::DataMemory;
@@ -35,7 +36,8 @@ impl Machine {
     /// A machine before its first instruction: all registers are 0, the pc is at the first word of the code,
     /// and the data memory has the image's first content.
     pub fn load(alloc: Global, image: &Image, input: &[i16]) -> Result<Machine, Memory>
-        ensures { IfOk result (λ machine. machine ≡ loaded_with image.now input.now) }
+        ensures loaded { IfOk result (λ machine. machine ≡ loaded_with image.now input.now) }
+        ensures first { IfOk result (IsAfter image.now input.now 0 []) }
     {
         Ok(Machine {
             code: Items::from_slice(alloc, image.code.as_slice())?,
@@ -51,8 +53,16 @@ impl Machine {
 
     /// Runs the machine until it writes a sample, its run is over, or `left` instructions are carried out.
     /// Each instruction lowers `left` by one. A machine whose run is over takes no step, and answers the same
-    /// again.
+    /// again. So after any calls that lowered `left` by m in all the machine is where m instructions lead, and the
+    /// samples that were told, in order, are its output.
     pub fn run(&mut self, left: &mut u64) -> Pause
+        ensures run { IsRun self.old self.new left.old left.new result }
+        ensures goes_on { GoesOn self.old self.new (left.old - left.new) (samples_of result) }
+    {
+        self.run_on(left)
+    }
+
+    fn run_on(&mut self, left: &mut u64) -> Pause
         ensures { IsRun self.old self.new left.old left.new result }
     {
         if let Some(ending) = self.ending {

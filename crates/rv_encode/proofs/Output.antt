@@ -1,16 +1,16 @@
 -- An instruction takes nothing back of what was written.
-use Rattle.std.proofs.Common.{◌≡◌, ℕ, zero, suc, ◌-◌, ◌%◌, ◌==◌, ℤ, pos, Bool, true, false, int_lt, if◌then◌else◌, List, [], ◌∷◌, ◌++◌, Option, Some, None, refl, sym, ap, ◌∙◌, append-nil, append_assoc}
+use Rattle.std.proofs.Common.{ℕ, zero, suc, ◌-◌, ◌%◌, ◌==◌, ℤ, pos, Bool, true, false, int_lt, if◌then◌else◌, List, [], ◌∷◌, ◌++◌, Option, Some, None, refl, sym, ap, ◌∙◌, append-nil, append_assoc}
 use Rattle.std.specs.Ordering.{int_eq}
 use Rattle.sat_base.specs.Clip.{low16}
 use Rattle.sat_base.specs.declared.machine_fault.MachineFault.{MachineFault}
-use Rattle.sat_base.specs.declared.machine_fault.MachineFault.TheVariants.{Load, Store, Jump, Align}
+use Rattle.sat_base.specs.declared.machine_fault.MachineFault.TheVariants.{Load, Store}
 use Rattle.rv_encode.specs.declared.instruction.Instr.{Instr}
 use Rattle.rv_encode.specs.declared.instruction.Instr.TheVariants.{Lui, Auipc, Jal, Jalr, Beq, Bne, Blt, Bge, Bltu, Bgeu, Lb, Lh, Lw, Lbu, Lhu, Sb, Sh, Sw, Addi, Slti, Sltiu, Xori, Ori, Andi, Slli, Srli, Srai, Add, Sll, Slt, Sltu, Xor, Srl, Or, And, Sub, Sra, Mul, Mulh, Mulhsu, Mulhu, Div, Divu, Rem, Remu, Fence, Ecall, Ebreak}
 use Rattle.rv_encode.specs.Arithmetic.{is_below}
 use Rattle.rv_encode.specs.Decoding.{decoded}
-use Rattle.rv_encode.specs.Effects.{effect_of, linked, jumps_to, accesses, takes, calls, faults}
-use Rattle.rv_encode.specs.Runs.{fetched, carried_out, executed, stepped, next_moment, moment_after, IsPrefix}
-use Rattle.rv_encode.specs.State.{MachineState, Moment, Running, Over, Ending, register, target_pc, address_of, is_inside, written}
+use Rattle.rv_encode.specs.Effects.{effect_of, linked, jumps_to, accesses, takes, calls}
+use Rattle.rv_encode.specs.Runs.{fetched, carried_out, executed, next_moment, moment_after, IsPrefix}
+use Rattle.rv_encode.specs.State.{MachineState, Moment, Running, Over, register, target_pc, address_of, is_inside, written}
 
 prefix_of_self : (xs : List ℤ) → IsPrefix xs xs
 prefix_of_self xs = ([], sym (append-nil xs))

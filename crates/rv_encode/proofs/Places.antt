@@ -1,5 +1,5 @@
 -- The pc of a word of the code, and the words that stand there.
-use Rattle.std.proofs.Common.{◌≡◌, ℕ, suc, zero, ◌+◌, ◌-◌, ◌*◌, ◌/◌, ◌%◌, ◌<◌, ◌≤◌, pos, Bool, true, false, List, [], ◌∷◌, ◌++◌, ◌==◌, nat_lt, get_or, length, map, take, drop, if◌then◌else◌, Some, None, refl, sym, ap, ◌∙◌, subst, arith, add-one, append_assoc, length-append}
+use Rattle.std.proofs.Common.{◌≡◌, ℕ, suc, zero, ◌+◌, ◌-◌, ◌*◌, ◌/◌, ◌%◌, ◌≤◌, pos, true, false, List, [], ◌∷◌, ◌++◌, ◌==◌, nat_lt, length, map, take, drop, if◌then◌else◌, Some, None, refl, sym, ap, ◌∙◌, subst, arith, add-one, append_assoc, length-append}
 use Rattle.std.specs.Prelude.{slice_get}
 use Rattle.std.proofs.Math.Seq.{drop-cons}
 use Rattle.std.proofs.lemmas.Int.{ints}

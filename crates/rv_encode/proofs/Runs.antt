@@ -1,5 +1,5 @@
 -- How a run goes from moment to moment.
-use Rattle.std.proofs.Common.{◌≡◌, ℕ, zero, suc, ◌+◌, ℤ, List, refl, sym, ap, ◌∙◌, arith, add-one}
+use Rattle.std.proofs.Common.{◌≡◌, ℕ, zero, suc, ◌+◌, ℤ, List, refl, ap, ◌∙◌, arith}
 use Rattle.rv_encode.specs.State.{Ending, Moment, Over}
 use Rattle.rv_encode.specs.Runs.{next_moment, moment_after}
 

@@ -2,10 +2,11 @@
 use Rattle.std.specs.Prelude.{ℕ, Bool, false, not, ◌&&◌, ◌==◌}
 use Rattle.rv_encode.specs.declared.instruction.Instr.{Instr}
 use Rattle.rv_encode.specs.declared.instruction.Instr.TheVariants.{Beq, Bne, Blt, Bge, Bltu, Bgeu, Slt, Slti, Sltiu, Sltu}
+use Rattle.rv_encode.specs.declared.register.TheConstants.{COUNT}
 
 -- not the register of the weighted count's lower half, whose carry is found by a comparison
 abbrev pub is_not_count : (rs : ℕ) → Bool
-is_not_count rs = not (rs == 24)
+is_not_count rs = not (rs == COUNT)
 
 -- a BRANCH, SLT, SLTI, SLTU or SLTIU that does not read x24
 abbrev pub is_comparing : Instr → Bool

@@ -1,6 +1,6 @@
 use Rattle.std.proofs.Common.{◌≡◌, None}
 use Rattle.rv_emulator.proofs.Moments.{Ran}
-use Rattle.rv_emulator.proofs.machine.Machine.run.Given as goal
+use Rattle.rv_emulator.proofs.machine.Machine.run_on.Given as goal
 
 abbrev pub invariant-loop-left : goal.invariant-loop-left
 invariant-loop-left l = record {
