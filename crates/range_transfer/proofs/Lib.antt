@@ -1,0 +1,10 @@
+pub mod Clips
+pub mod Numbers
+pub mod Order
+pub mod Extremes
+pub mod Powers
+pub mod Least
+pub mod Operands
+pub mod Reach
+pub mod Steady
+pub mod Stops
