@@ -1,37 +1,23 @@
 -- What a source of the first form does, in the terms of the source alone. In a pattern `boxed e` is a box with
 -- e in it.
-use Rattle.std.specs.Prelude.{ℕ, ◌+◌, ℤ, pos, ◌+ℤ◌, ◌-ℤ◌, List, [], ◌∷◌, ◌++◌, Bool, not, if◌then◌else◌}
-use Rattle.std.specs.Ordering.{int_eq}
-use Rattle.sat_base.specs.Clip.{clip16, low16}
+use Rattle.std.specs.Prelude.{ℕ, ◌+◌, ℤ, pos, List, [], ◌∷◌, ◌++◌, Bool, if◌then◌else◌}
+use Rattle.std.specs.Option.{unwrap_or}
+use Rattle.sat_base.specs.Clip.{low16}
 use Rattle.sat_base.specs.Observation.{Observation, End}
+use Rattle.operator_meaning.specs.Clipping.{raises_of}
+use Rattle.operator_meaning.specs.Value as operators
+use Rattle.operator_meaning.specs.declared.operator.Op.{Op}
+use Rattle.operator_meaning.specs.declared.operator.Op.TheVariants.{Add, Sub}
+use Rattle.weight_table.specs.Weight.{first_weight}
+use Rattle.weight_table.specs.declared.counted.Counted.TheVariants.{Call}
 use Rattle.first_form.specs.declared.first.First.{First}
 use Rattle.first_form.specs.declared.first.FirstExpr.{FirstExpr, Int, Add', Sub', more_of-FirstExpr as boxed}
 
--- ---- the operators `add` and `sub` (ITU-T G.191, basic operators)
+-- ---- operators of two numbers (ITU-T G.191, basic operators)
 
--- the sum, clipped to 16 bits
-abbrev pub add_value : ℤ → ℤ → ℤ
-add_value a b = clip16 (a +ℤ b)
-
--- Overflow is set exactly where the clip changes the sum
-abbrev pub add_raises : ℤ → ℤ → Bool
-add_raises a b = not (int_eq (add_value a b) (a +ℤ b))
-
--- what a call of `add` counts
-abbrev pub add_weight : ℕ
-add_weight = 1
-
--- the difference, clipped to 16 bits
-abbrev pub sub_value : ℤ → ℤ → ℤ
-sub_value a b = clip16 (a -ℤ b)
-
--- Overflow is set exactly where the clip changes the difference
-abbrev pub sub_raises : ℤ → ℤ → Bool
-sub_raises a b = not (int_eq (sub_value a b) (a -ℤ b))
-
--- what a call of `sub` counts
-abbrev pub sub_weight : ℕ
-sub_weight = 1
+-- the value of an operator; each of them has one on every two numbers
+abbrev pub operated : Op → ℤ → ℤ → ℤ
+operated op a b = unwrap_or (operators.value_of op (a ∷ b ∷ [])) (pos 0)
 
 -- ---- runs
 
@@ -48,8 +34,8 @@ first_state = record { overflow = pos 0; count = 0; output = [] }
 -- the value of an expression
 abbrev pub value_of : FirstExpr → ℤ
 value_of (Int n) = n
-value_of (Add' tok at _ (boxed left _) _ (boxed right _)) = add_value (value_of left) (value_of right)
-value_of (Sub' tok at _ (boxed left _) _ (boxed right _)) = sub_value (value_of left) (value_of right)
+value_of (Add' tok at _ (boxed left _) _ (boxed right _)) = operated Add (value_of left) (value_of right)
+value_of (Sub' tok at _ (boxed left _) _ (boxed right _)) = operated Sub (value_of left) (value_of right)
 
 -- the state after an operator: it adds its weight, and sets Overflow where it raises
 abbrev pub after_operator : Bool → ℕ → SourceState → SourceState
@@ -59,9 +45,9 @@ after_operator raises weight s = record s { overflow = if raises then pos 1 else
 abbrev pub after_expression : FirstExpr → SourceState → SourceState
 after_expression (Int n) s = s
 after_expression (Add' tok at _ (boxed left _) _ (boxed right _)) s =
-    after_operator (add_raises (value_of left) (value_of right)) add_weight (after_expression right (after_expression left s))
+    after_operator (raises_of Add (value_of left ∷ value_of right ∷ [])) (first_weight (Call Add)) (after_expression right (after_expression left s))
 after_expression (Sub' tok at _ (boxed left _) _ (boxed right _)) s =
-    after_operator (sub_raises (value_of left) (value_of right)) sub_weight (after_expression right (after_expression left s))
+    after_operator (raises_of Sub (value_of left ∷ value_of right ∷ [])) (first_weight (Call Sub)) (after_expression right (after_expression left s))
 
 -- the state after `sample_out` of an expression: the low 16 bits of its value are written
 abbrev pub after_out : FirstExpr → SourceState → SourceState
