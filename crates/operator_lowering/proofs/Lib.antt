@@ -1,7 +1,7 @@
-pub mod Adds
 pub mod Clips
 pub mod Effects
 pub mod Ends
 pub mod Names
 pub mod Renamed
 pub mod Steps
+pub mod Sums
