@@ -21,3 +21,16 @@ add_words form = clipped_words (Add 8 11 12) form
 
 abbrev pub sub_words : Form → List Instr
 sub_words form = clipped_words (Sub 8 11 12) form
+
+-- half a number, and a number into half a number; no clip changes these, so the form makes no difference
+abbrev pub extract_h_words : List Instr
+extract_h_words = Srai 8 11 16 ∷ []
+
+abbrev pub extract_l_words : List Instr
+extract_l_words = Slli 8 11 16 ∷ Srai 8 8 16 ∷ []
+
+abbrev pub deposit_h_words : List Instr
+deposit_h_words = Slli 8 11 16 ∷ []
+
+abbrev pub deposit_l_words : List Instr
+deposit_l_words = Addi 8 11 (pos 0) ∷ []
