@@ -7,7 +7,7 @@ use Rattle.sat_base.specs.declared.machine_fault.MachineFault.TheVariants.{Load,
 use Rattle.rv_encode.specs.declared.instruction.Instr.TheVariants.{Lw, Sw}
 use Rattle.rv_encode.specs.Words.{encoded, IsWithin}
 use Rattle.rv_encode.specs.State.{Moment, Running, data_start, is_inside, word_at, with_word, next_pc, address_of}
-use Rattle.rv_encode.specs.Moments.{stores, loads, faults}
+use Rattle.rv_encode.specs.Effects.{stores, loads, faults}
 use Rattle.rv_encode.specs.Runs.{Leads}
 use Rattle.rv_encode.proofs.Encodings.{encoded_decodes}
 use Rattle.rv_encode.proofs.Stores.{stored_is_loaded, others_stay}
