@@ -17,6 +17,7 @@ use Rattle.rv_encode.specs.State.{register}
 use Rattle.operator_lowering.specs.Laws.{HalvesAreTemplates}
 use Rattle.operator_lowering.specs.Template.{OperatorHolds, flag_after}
 use Rattle.operator_lowering.specs.Words.{extract_h_words, extract_l_words, deposit_h_words, deposit_l_words}
+use Rattle.operator_lowering.proofs.Fits.{extract_h_fit, extract_l_fit, deposit_h_fit, deposit_l_fit}
 use Rattle.operator_lowering.proofs.Ends.{leaves}
 
 -- ---- values
@@ -100,8 +101,8 @@ deposit_l_holds form regs code k s value stands before fit is none =
 
 pub halves_are_templates : HalvesAreTemplates
 halves_are_templates form = (
-  record { holds = extract_h_holds form; short = lit≤ tt; plain = λ e none. All-cons (λ instr. is_comparing instr ≡ false) (Srai 8 11 16) [] refl (All-nil _) },
-  record { holds = extract_l_holds form; short = lit≤ tt; plain = λ e none. All-cons (λ instr. is_comparing instr ≡ false) (Slli 8 11 16) (Srai 8 8 16 ∷ []) refl (All-cons (λ instr. is_comparing instr ≡ false) (Srai 8 8 16) [] refl (All-nil _)) },
-  record { holds = deposit_h_holds form; short = lit≤ tt; plain = λ e none. All-cons (λ instr. is_comparing instr ≡ false) (Slli 8 11 16) [] refl (All-nil _) },
-  record { holds = deposit_l_holds form; short = lit≤ tt; plain = λ e none. All-cons (λ instr. is_comparing instr ≡ false) (Addi 8 11 (pos 0)) [] refl (All-nil _) },
+  record { holds = extract_h_holds form; fit = extract_h_fit; short = lit≤ tt; plain = λ e none. All-cons (λ instr. is_comparing instr ≡ false) (Srai 8 11 16) [] refl (All-nil _) },
+  record { holds = extract_l_holds form; fit = extract_l_fit; short = lit≤ tt; plain = λ e none. All-cons (λ instr. is_comparing instr ≡ false) (Slli 8 11 16) (Srai 8 8 16 ∷ []) refl (All-cons (λ instr. is_comparing instr ≡ false) (Srai 8 8 16) [] refl (All-nil _)) },
+  record { holds = deposit_h_holds form; fit = deposit_h_fit; short = lit≤ tt; plain = λ e none. All-cons (λ instr. is_comparing instr ≡ false) (Slli 8 11 16) [] refl (All-nil _) },
+  record { holds = deposit_l_holds form; fit = deposit_l_fit; short = lit≤ tt; plain = λ e none. All-cons (λ instr. is_comparing instr ≡ false) (Addi 8 11 (pos 0)) [] refl (All-nil _) },
 )

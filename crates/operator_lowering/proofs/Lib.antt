@@ -1,6 +1,7 @@
 pub mod Clips
 pub mod Effects
 pub mod Ends
+pub mod Fits
 pub mod Halves
 pub mod Names
 pub mod Renamed

@@ -20,6 +20,7 @@ use Rattle.operator_lowering.specs.Laws.{SumsAreTemplates}
 use Rattle.operator_lowering.specs.Template.{OperatorHolds, flag_after}
 use Rattle.operator_lowering.specs.Words.{clipped_words, add_words, sub_words}
 use Rattle.operator_lowering.proofs.Clips.{low_half, end_by_sign, kept, changed, changes_not, changes, unclipped, sum_fits, sum_is, difference_fits, difference_is}
+use Rattle.operator_lowering.proofs.Fits.{register_fits, clipped_fit}
 use Rattle.operator_lowering.proofs.Ends.{begun, EndsAt, leaves}
 
 -- a number of 17 bits, in x8 after the first word
@@ -120,6 +121,6 @@ sub_holds form regs code k s value stands before fit is none =
 
 pub sums_are_templates : SumsAreTemplates
 sums_are_templates form = (
-  record { holds = add_holds form; short = clipped_short (Add 8 11 12) form; plain = λ e none. clipped_plain (Add 8 11 12) form refl e },
-  record { holds = sub_holds form; short = clipped_short (Sub 8 11 12) form; plain = λ e none. clipped_plain (Sub 8 11 12) form refl e },
+  record { holds = add_holds form; fit = λ regs range. clipped_fit regs range (Add 8 11 12) (register_fits regs.result range.result, register_fits regs.first range.first, register_fits regs.second range.second) form; short = clipped_short (Add 8 11 12) form; plain = λ e none. clipped_plain (Add 8 11 12) form refl e },
+  record { holds = sub_holds form; fit = λ regs range. clipped_fit regs range (Sub 8 11 12) (register_fits regs.result range.result, register_fits regs.first range.first, register_fits regs.second range.second) form; short = clipped_short (Sub 8 11 12) form; plain = λ e none. clipped_plain (Sub 8 11 12) form refl e },
 )
