@@ -1,7 +1,7 @@
 -- The words that clip to 16 bits.
 use Rattle.std.proofs.Common.{◌≡◌, ◌*◌, ◌^◌, ℤ, pos, negsuc, ◌+ℤ◌, ◌-ℤ◌, ◌≤ℤ◌, ◌<ℤ◌, true, false, not, ◌⊎◌, inl, inr, int_lt, sym, ap, ◌∙◌, arith, ⊎_elim}
 use Rattle.std.specs.Prelude.{FitsSigned}
-use Rattle.std.specs.Int.{w16, w32, cast_signed, int_wrapping_add, int_bit_xor}
+use Rattle.std.specs.Int.{w16, w32, cast_signed, int_wrapping_add, int_wrapping_sub, int_bit_xor}
 use Rattle.std.specs.Ordering.{int_eq}
 use Rattle.std.proofs.lemmas.Bool.{cases_Bool}
 use Rattle.std.proofs.lemmas.Bool.Decides.{Decides-int_eq}
@@ -136,3 +136,10 @@ sum_fits a b fits_a fits_b = (grind (arith, ints), grind (arith, ints))
 
 pub sum_is : (a b : ℤ) → FitsSigned w16 a → FitsSigned w16 b → int_wrapping_add w32 a b ≡ a +ℤ b
 sum_is a b fits_a fits_b = grind (arith, ints)
+
+-- and their difference
+pub difference_fits : (a b : ℤ) → FitsSigned w16 a → FitsSigned w16 b → (negsuc 65535 ≤ℤ (a -ℤ b)) × ((a -ℤ b) ≤ℤ pos 65535)
+difference_fits a b fits_a fits_b = (grind (arith, ints), grind (arith, ints))
+
+pub difference_is : (a b : ℤ) → FitsSigned w16 a → FitsSigned w16 b → int_wrapping_sub w32 a b ≡ a -ℤ b
+difference_is a b fits_a fits_b = grind (arith, ints)

@@ -1,10 +1,11 @@
 -- The machine follows the course of a template, over the registers of any site.
 use Rattle.std.proofs.Common.{◌≡◌, ℕ, zero, suc, ◌+◌, ◌<◌, List, length, Option, Some, None, refl, sym, ap, ◌∙◌, subst, arith}
 use Rattle.std.specs.Prelude.{slice_get}
-use Rattle.std.proofs.lemmas.Option.{slice_get_within, slice_get-map}
+use Rattle.std.proofs.lemmas.Option.{slice_get_within, slice_get-map, get_or_from_slice_get}
 use Rattle.rv_encode.specs.declared.instruction.Instr.{Instr}
 use Rattle.rv_encode.specs.State.{MachineState, Moment, Running}
 use Rattle.rv_encode.specs.Effects.{effect_of}
+use Rattle.rv_encode.specs.Words.{Fits}
 use Rattle.rv_encode.specs.Runs.{moment_after, next_moment, executed, carried_out}
 use Rattle.rv_encode.proofs.Encodings.{encoded_decodes}
 use Rattle.rv_encode.proofs.Places.{fetched_at, stand_at}
@@ -27,7 +28,7 @@ module _ (regs : Registers) (code : List ℕ) (k : ℕ) (instrs : List Instr) (s
       let within = stands.within in
       let there = stand_at code k (all_over regs instrs) stands.stand c.at own (slice_get-map (over regs) instrs c.at ∙ ap (λ o. Rattle.std.specs.Option.option_map (over regs) o) e) in
       let effect : next_moment code (Running s) ≡ effect_of own s =
-      ap (λ o. executed o s) (fetched_at code s.pc (k + c.at) here.pc ∙ there) ∙ ap (λ o. carried_out o s) (encoded_decodes own (stands.fit instr c.at e)) in
+      ap (λ o. executed o s) (fetched_at code s.pc (k + c.at) here.pc ∙ there) ∙ ap (λ o. carried_out o s) (encoded_decodes own (subst (λ i. Fits (over regs i)) (get_or_from_slice_get instrs c.at instr instr e) (stands.fit c.at instr less))) in
       subst (λ at. IsThere regs k start at (step_at (Some instr) c)) (sym effect)
       (part_follows regs stands.range k start s c here (omega arith) (part_of instr) (effect_of own s) (part_effect regs instr s))
 

@@ -1,5 +1,5 @@
 -- A template does the same over the registers of any site.
-use Rattle.std.specs.Prelude.{◌≡◌, ◌≢◌, ℕ, ◌+◌, ◌≤◌, List, Bool, true, All, length, ◌||◌, ◌==◌, Some, slice_get}
+use Rattle.std.specs.Prelude.{◌≡◌, ◌≢◌, ℕ, ◌+◌, ◌≤◌, List, Bool, true, All, length, ◌||◌, ◌==◌}
 use Rattle.rv_encode.specs.declared.instruction.Instr.{Instr}
 use Rattle.std.specs.Int.{w32, cast_unsigned}
 use Rattle.rv_encode.specs.State.{MachineState, Moment, Running, Over, Stopped, register}
@@ -27,7 +27,7 @@ pub record IsAt (regs : Registers) (k : ℕ) (start s : MachineState) (c : Cours
 -- a site's words stand in the code from here on
 pub record StandHere (regs : Registers) (code : List ℕ) (k : ℕ) (instrs : List Instr) : Type 0 where
   pub range : AreInRange regs
-  pub fit : (i : Instr) (n : ℕ) → slice_get instrs n ≡ Some i → Fits (over regs i)
+  pub fit : All (λ instr. Fits (over regs instr)) instrs
   pub stand : Stand code k (all_over regs instrs)
   pub short : length instrs ≤ 96
   pub within : k + length instrs ≤ 16777216

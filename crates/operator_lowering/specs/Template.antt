@@ -11,9 +11,10 @@ use Rattle.rv_encode.specs.declared.instruction.Instr.{Instr}
 use Rattle.rv_encode.specs.Comparing.{is_comparing}
 use Rattle.rv_encode.specs.declared.register.TheConstants.{OVERFLOW}
 use Rattle.rv_encode.specs.State.{MachineState, Running, register}
+use Rattle.rv_encode.specs.Words.{Fits}
 use Rattle.rv_encode.specs.Runs.{pc_of, moment_after}
 use Rattle.operator_lowering.specs.Renamed.{StandHere}
-use Rattle.operator_lowering.specs.Renaming.{Registers}
+use Rattle.operator_lowering.specs.Renaming.{Registers, AreInRange, over}
 
 -- the registers that the words between operands and result may change
 abbrev pub is_scratch : ℕ → Bool
@@ -72,5 +73,6 @@ may_compare op = false
 -- shifts and the norms.
 pub record IsTemplate (op : Op) (form : Form) (instrs : List Instr) : Type 0 where
   pub holds : OperatorHolds op form instrs
+  pub fit : (regs : Registers) → AreInRange regs → All (λ instr. Fits (over regs instr)) instrs
   pub short : length instrs ≤ 96
   pub plain : form ≡ Plain → may_compare op ≡ false → All (λ instr. is_comparing instr ≡ false) instrs
