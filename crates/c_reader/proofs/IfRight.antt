@@ -13,11 +13,12 @@ use Rattle.c_reader.specs.Grammar as rule
 use Rattle.c_reader.specs.Nodes as a
 use Rattle.c_reader.specs.Parts.{Part, node, word, kept}
 use Rattle.c_reader.specs.ReadExpressions.{expression_at}
-use Rattle.c_reader.specs.ReadStatements.{after, condition_at, else_by, if_by}
+use Rattle.c_reader.specs.Lists.{after}
+use Rattle.c_reader.specs.ReadStatements.{condition_at, else_by, if_by}
 use Rattle.c_reader.specs.Spelling.{counted, Spells, Front}
 use Rattle.c_reader.specs.Spelling as spelling
-use Rattle.c_reader.specs.Spots.{Spot}
-use Rattle.c_reader.specs.Stream.{ahead, here, rest, Fault, Parser, ◌>>=◌, both, take_at}
+use Rattle.c_reader.specs.Spots.{Spot, here}
+use Rattle.c_reader.specs.Stream.{ahead, rest, Fault, Parser, ◌>>=◌, both, take_at}
 use Rattle.c_reader.specs.Symbols.{same_symbol}
 use Rattle.c_reader.proofs.Begins.{starts}
 use Rattle.c_reader.proofs.Depths.{nothing_is_flat}

@@ -29,7 +29,6 @@ pub mod ItemParts
 pub mod ItemRests
 pub mod ItemsRight
 pub mod Listed
-pub mod Lists
 pub mod Loops
 pub mod Looser
 pub mod Lower

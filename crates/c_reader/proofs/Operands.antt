@@ -19,8 +19,8 @@ use Rattle.c_reader.specs.Nodes as a
 use Rattle.c_reader.specs.Parts.{Token, Kept, Called, Part, token, node, word, kept, Is}
 use Rattle.c_reader.specs.ReadExpressions.{Readers, unmarked, reading, type_at, arguments_by, bracketed_by, named_by, operand_by, unary_by, next_unary}
 use Rattle.c_reader.specs.Spelling.{Spells}
-use Rattle.c_reader.specs.Spots.{Spot}
-use Rattle.c_reader.specs.Stream.{ahead, here, rest, Fault, Parser, ◌>>=◌, both, mapped, take_at, name_at, number_at}
+use Rattle.c_reader.specs.Spots.{Spot, here}
+use Rattle.c_reader.specs.Stream.{ahead, rest, Fault, Parser, ◌>>=◌, both, mapped, take_at, name_at, number_at}
 use Rattle.c_reader.specs.Symbols.{same_symbol, unary_mark, width_of, begins_type, begins_expression}
 use Rattle.c_reader.proofs.Arguments.{of_call, call_of, call_right}
 use Rattle.c_reader.proofs.Indices.{some_expression, of_expression, of_named}

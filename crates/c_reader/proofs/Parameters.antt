@@ -19,8 +19,8 @@ use Rattle.c_reader.specs.ReadDeclarations.{passed, dimension_at}
 use Rattle.c_reader.specs.ReadExpressions.{type_at, expression_at}
 use Rattle.c_reader.specs.ReadSource.{maybe_name_at, param_dimension_at, param_of}
 use Rattle.c_reader.specs.Spelling.{Spells, whole}
-use Rattle.c_reader.specs.Spots.{Spot}
-use Rattle.c_reader.specs.Stream.{ahead, here, rest, Fault, both, name_at}
+use Rattle.c_reader.specs.Spots.{Spot, here}
+use Rattle.c_reader.specs.Stream.{ahead, rest, Fault, both, name_at}
 use Rattle.c_reader.specs.Symbols.{same_symbol, begins_type}
 use Rattle.c_reader.proofs.Alternatives.{by_seen, alternative, nothing_right, no_node, ends_after, ahead_is, follows_token, follows_nothing, after_word}
 use Rattle.c_reader.proofs.Begins.{dimension_begins, spells_starts, wrong}

@@ -24,8 +24,8 @@ use Rattle.c_reader.specs.ReadExpressions.{expression_at, indices_at, arguments_
 use Rattle.c_reader.specs.ReadStatements.{mark_by, assignment_at, after_place, named_simple_by}
 use Rattle.c_reader.specs.Spelling.{counted, Spells, Front}
 use Rattle.c_reader.specs.Spelling as spelling
-use Rattle.c_reader.specs.Spots.{Spot}
-use Rattle.c_reader.specs.Stream.{ahead, here, rest, Fault, Parser, ◌>>=◌, both}
+use Rattle.c_reader.specs.Spots.{Spot, here}
+use Rattle.c_reader.specs.Stream.{ahead, rest, Fault, Parser, ◌>>=◌, both}
 use Rattle.c_reader.specs.Symbols.{same_symbol, assign_mark, step_of}
 use Rattle.c_reader.proofs.Begins.{starts, spells_starts}
 use Rattle.c_reader.proofs.Folds.{Spells-fold, Front-fold}

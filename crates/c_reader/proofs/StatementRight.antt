@@ -18,7 +18,8 @@ use Rattle.c_reader.specs.Grammar as rule
 use Rattle.c_reader.specs.Nodes as a
 use Rattle.c_reader.specs.Parts.{Called, Part, node, Is, word, kept}
 use Rattle.c_reader.specs.ReadExpressions.{expression_at, indices_at, arguments_at, place_at}
-use Rattle.c_reader.specs.ReadStatements.{after, closed, simple_at, condition_at, simples_before_at, expression_before_semicolon_at, block_by, while_by, do_by, for_by, break_at, continue_at, return_at, simple_statement_at, next_statement, statement_with, block_with}
+use Rattle.c_reader.specs.Lists.{after}
+use Rattle.c_reader.specs.ReadStatements.{closed, simple_at, condition_at, simples_before_at, expression_before_semicolon_at, block_by, while_by, do_by, for_by, break_at, continue_at, return_at, simple_statement_at, next_statement, statement_with, block_with}
 use Rattle.c_reader.specs.Spots.{Spot}
 use Rattle.c_reader.specs.Stream.{ahead, Fault, Parser, both, take_at}
 use Rattle.c_reader.specs.Symbols.{same_symbol}

@@ -7,8 +7,8 @@ use Rattle.c_reader.specs.declared.symbol.Symbol.TheVariants.{End}
 use Rattle.c_reader.specs.Parts.{Token, Part, token, Is}
 use Rattle.c_reader.specs.Spelling.{counted, Spells, Front}
 use Rattle.c_reader.specs.Spelling as spelling
-use Rattle.c_reader.specs.Spots.{Spot}
-use Rattle.c_reader.specs.Stream.{here, Fault, both, Parser, ◌>>=◌}
+use Rattle.c_reader.specs.Spots.{Spot, here}
+use Rattle.c_reader.specs.Stream.{Fault, both, Parser, ◌>>=◌}
 use Rattle.c_reader.proofs.Right.{first, first_only, Ends, Stops, Read, Bad, HasFront, Refused, Right, always}
 use Rattle.c_reader.proofs.Sequences.{from_token, from_nothing, split, join, Front-more, Front-after}
 

@@ -6,7 +6,8 @@ use Rattle.c_reader.specs.declared.symbol.Symbol.{Symbol}
 use Rattle.c_reader.specs.declared.symbol.Symbol.TheVariants as symbol
 use Rattle.c_reader.specs.Nodes.{Node}
 use Rattle.c_reader.specs.Parts.{Token, Any, Kept, Part, token, node, Is, word, kept}
-use Rattle.c_reader.specs.ReadStatements.{after, closed, mark_by}
+use Rattle.c_reader.specs.Lists.{after}
+use Rattle.c_reader.specs.ReadStatements.{closed, mark_by}
 use Rattle.c_reader.specs.Spelling.{Spells, Front}
 use Rattle.c_reader.specs.Spelling as spelling
 use Rattle.c_reader.specs.Spots.{Spot}
