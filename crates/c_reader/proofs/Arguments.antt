@@ -22,11 +22,13 @@ use Rattle.c_reader.specs.Spelling as spelling
 use Rattle.c_reader.specs.Spots.{Spot}
 use Rattle.c_reader.specs.Stream.{ahead, rest, Fault, Parser, ◌>>=◌, both, mapped, take_at}
 use Rattle.c_reader.specs.Symbols.{same_symbol, begins_expression}
+use Rattle.c_reader.proofs.Endings.{seen_twice}
+use Rattle.c_reader.proofs.Dependent.{seen_by}
 use Rattle.c_reader.proofs.Indices.{of_expression, of_named, of_called, Read-name}
 use Rattle.c_reader.proofs.Begins.{spells_starts}
 use Rattle.c_reader.proofs.Listed.{listed_as}
 use Rattle.c_reader.proofs.StatementLoops.{after-taken}
-use Rattle.c_reader.proofs.Looser.{done, same, loose, tighten, Seen-looser, seen_by, seen_twice}
+use Rattle.c_reader.proofs.Looser.{done, same, loose, tighten, Seen-looser}
 use Rattle.c_reader.proofs.Lower.{RightReaders}
 use Rattle.c_reader.proofs.Right.{first, Ends, Stops, Read, Right, always}
 use Rattle.c_reader.proofs.Rules.{Chosen, no_parts, early_seen, token-ahead}

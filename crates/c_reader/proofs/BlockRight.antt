@@ -138,7 +138,7 @@ module _ (n : ℕ) (objects : Parser Objects) (objects_right : (i : List Spot) �
       let last : symbol.CloseBrace ≢ symbol.End = λ e. cc in
       let pair = both (block_objects_by objects) (statements_by statement) in
       let inner : (j : List Spot) → Ends j → Right (λ (z : List Objects × List Stmt). inner_parts z ++ word symbol.CloseBrace ∷ []) n always [] j (closed pair symbol.CloseBrace j) =
-      λ j ends_j. closed_right inner_parts n stops_inner symbol.CloseBrace last ([], []) pair (λ z. refl) [] j
+      λ j ends_j. closed_right inner_parts n stops_inner symbol.CloseBrace last ([], []) pair (λ z. refl) j
       (Right-both each_objects each_statement n (stops_many ends_objects) (stops_many is_brace) objects_follow [] (block_objects_by objects) (statements_by statement) [] j (block_objects_right j ends_j) statements_right) in
       let r = Right-both (λ (at : At). kept symbol.OpenBrace at ∷ []) (λ (z : List Objects × List Stmt). inner_parts z ++ word symbol.CloseBrace ∷ []) n always always
       (λ x z c v s sp st. refl) ([], []) (take_at symbol.OpenBrace) (closed pair symbol.CloseBrace) [] i (take_right symbol.OpenBrace brace n i ends) inner in

@@ -26,12 +26,12 @@ use Rattle.c_reader.specs.Symbols.{same_symbol}
 use Rattle.c_reader.proofs.Alternatives.{by_seen, alternative, ahead_is, follows_token}
 use Rattle.c_reader.proofs.Becoming.{Back, becoming}
 use Rattle.c_reader.proofs.Begins.{begins_declarator, dimension_begins, spells_starts}
-use Rattle.c_reader.proofs.Endings.{early_ahead, early_token}
+use Rattle.c_reader.proofs.Endings.{nothing_ahead, early_ahead, early_token}
 use Rattle.c_reader.proofs.Declarators.{Dims, object_rest, object_rest_right, declarator_right}
 use Rattle.c_reader.proofs.Dependent.{seen_by}
 use Rattle.c_reader.proofs.Endings.{word_after, then_word}
 use Rattle.c_reader.proofs.Functions.{FunctionRest, function_rest, read_function, function_right}
-use Rattle.c_reader.proofs.Initialisers.{ends_start, stops_start}
+use Rattle.c_reader.proofs.Initialisers.{ends_start, stops_start, start_then}
 use Rattle.c_reader.proofs.Inlined.{Becomes, becomes_same, becomes_node, unfold_whole}
 use Rattle.c_reader.proofs.Listed.{ends_list, ends_one, more_right}
 use Rattle.c_reader.proofs.ObjectsRight.{Decls, decls_parts, declared_from, declared_right}
@@ -46,21 +46,9 @@ use Rattle.c_tree.specs.declared.declaration.Init.TheVariants as init
 
 -- ---- what is ahead of parts that may be nothing
 
-start_then : {x : Init} {ps : List Part} {c : ℕ} {w : List Spot} (P : Symbol → Bool) (s : List Spot) → P symbol.Equal ≡ true → ((d : ℕ) (v : List Spot) → Spells ps d v → P (ahead (v ++ s)) ≡ true)
-    → Spells (node (a.start x) ∷ ps) c w → P (ahead (w ++ s)) ≡ true
-start_then {w = w} P s equal holds (whole {d = d} {u1 = u1} {u2 = u2} {v = v} rule.nothing early late rest e _) =
-    let nothing : (u1 ++ u2) ++ v ≡ v = ap (λ (x : List Spot). (x ++ u2) ++ v) (from_nothing early).tokens ∙ ap (λ (x : List Spot). x ++ v) (from_nothing late).tokens in
-    ap (λ (x : List Spot). P (ahead (x ++ s))) (e ∙ nothing) ∙ holds d v rest
-start_then {w = w} P s equal holds (whole {u1 = u1} {u2 = u2} {v = v} rule.one early late rest e _) = ap P (early_token u1 u2 v w s e early) ∙ equal
-start_then {w = w} P s equal holds (whole {u1 = u1} {u2 = u2} {v = v} rule.flat early late rest e _) = ap P (early_token u1 u2 v w s e early) ∙ equal
-start_then {w = w} P s equal holds (whole {u1 = u1} {u2 = u2} {v = v} rule.rows early late rest e _) = ap P (early_token u1 u2 v w s e early) ∙ equal
-start_then {w = w} P s equal holds (whole {u1 = u1} {u2 = u2} {v = v} rule.rows_and_comma early late rest e _) = ap P (early_token u1 u2 v w s e early) ∙ equal
-
 dims_then : {rows cols : Option Dim} {ps : List Part} {c : ℕ} {w : List Spot} (P : Symbol → Bool) (s : List Spot) → P symbol.OpenBracket ≡ true → ((d : ℕ) (v : List Spot) → Spells ps d v → P (ahead (v ++ s)) ≡ true)
     → Spells (node (a.dimensions rows cols) ∷ ps) c w → P (ahead (w ++ s)) ≡ true
-dims_then {w = w} P s bracket holds (whole {d = d} {u1 = u1} {u2 = u2} {v = v} rule.scalar early late rest e _) =
-    let nothing : (u1 ++ u2) ++ v ≡ v = ap (λ (x : List Spot). (x ++ u2) ++ v) (from_nothing early).tokens ∙ ap (λ (x : List Spot). x ++ v) (from_nothing late).tokens in
-    ap (λ (x : List Spot). P (ahead (x ++ s))) (e ∙ nothing) ∙ holds d v rest
+dims_then {w = w} P s bracket holds (whole {d = d} {u1 = u1} {u2 = u2} {v = v} rule.scalar early late rest e _) = ap P (nothing_ahead u1 u2 v w s e early late) ∙ holds d v rest
 dims_then {w = w} P s bracket holds (whole {u1 = u1} {u2 = u2} {v = v} rule.array early late rest e _) = ap P (early_ahead u1 u2 v w s e ∙ dimension_begins (u2 ++ (v ++ s)) early) ∙ bracket
 dims_then {w = w} P s bracket holds (whole {u1 = u1} {u2 = u2} {v = v} rule.table early late rest e _) = ap P (early_ahead u1 u2 v w s e ∙ dimension_begins (u2 ++ (v ++ s)) early) ∙ bracket
 

@@ -15,7 +15,6 @@ pub mod Dimensions
 pub mod Endings
 pub mod ExpressionStep
 pub mod ExpressionsRight
-pub mod Folds
 pub mod Functions
 pub mod Going
 pub mod HeightEquations

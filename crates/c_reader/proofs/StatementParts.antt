@@ -127,4 +127,4 @@ module _ (n : ℕ) (expression_right : (i : List Spot) → Ends i → Right (λ 
       let first : symbol.OpenParen ≢ symbol.End = λ e. cc in
       let last : symbol.CloseParen ≢ symbol.End = λ e. cc in
       after_right (λ (e : Expr). node (a.expr e) ∷ word symbol.CloseParen ∷ []) n always symbol.OpenParen first any_expression (closed (expression_at n) symbol.CloseParen)
-      (λ j ends_j. closed_right of_expression n stops_expression symbol.CloseParen last any_expression (expression_at n) (λ e. refl) [] j (expression_right j ends_j)) i ends
+      (λ j ends_j. closed_right of_expression n stops_expression symbol.CloseParen last any_expression (expression_at n) (λ e. refl) j (expression_right j ends_j)) i ends

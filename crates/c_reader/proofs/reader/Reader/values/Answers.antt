@@ -9,7 +9,6 @@ use Rattle.c_reader.specs.Symbols.{same_symbol}
 use Rattle.c_reader.proofs.Going.{braced_from, braced_step, braced_fails, braced_ended, braced_last, braced_closed, braced_unclosed, braced_refused}
 use Rattle.c_reader.proofs.StatementLoops.{rest_passed, rest_kept, shorter_rest, gives_residual}
 use Rattle.c_reader.proofs.reader.Reader.values.Goals as goal
-use Rattle.c_reader.proofs.StatementLoops.{rest_passed, rest_kept, shorter_rest, gives_residual}
 use Rattle.c_reader.proofs.reader.Reader.values.Goals.{then-loop-self-test+else-not-is, else-loop-self-test}
 
 pub returns-in_err-expression-2-clause-read : goal.returns-in_err-expression-2-clause-read
