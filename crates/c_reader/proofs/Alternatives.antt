@@ -40,9 +40,6 @@ follows_token stops s sp e = ap stops (token-ahead s sp) ∙ e
 pub follows_nothing : {c : ℕ} {v : List Spot} (stops : Symbol → Bool) (s : List Spot) → Spells [] c v → stops (ahead s) ≡ true → stops (ahead (v ++ s)) ≡ true
 follows_nothing {v = v} stops s sp e = ap (λ (w : List Spot). stops (ahead (w ++ s))) (from_nothing sp).tokens ∙ e
 
-pub same_symbols : (s t : Symbol) → s ≡ t → (u : Symbol) → same_symbol s u ≡ same_symbol t u
-same_symbols s t e u = ap (λ (x : Symbol). same_symbol x u) e
-
 -- ---- one of several
 
 module _ {A X : Type 0} (of_x : X → List Part) (limit : ℕ) (stops_x : X → Symbol → Bool) (before i : List Spot) (mk : A → X) where

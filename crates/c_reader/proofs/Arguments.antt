@@ -13,6 +13,7 @@ use Rattle.c_reader.specs.declared.symbol.Symbol.{Symbol}
 use Rattle.c_reader.specs.declared.symbol.Symbol.TheVariants as symbol
 use Rattle.c_reader.specs.Grammar.{Rule}
 use Rattle.c_reader.specs.Grammar as rule
+use Rattle.c_reader.specs.Lists.{after, many, is_comma}
 use Rattle.c_reader.specs.Nodes as a
 use Rattle.c_reader.specs.Parts.{Kept, Called, Part, node, word, kept, followed, Is}
 use Rattle.c_reader.specs.ReadExpressions.{Readers, argument_by, more_arguments, listed_by, arguments_by}
@@ -21,10 +22,13 @@ use Rattle.c_reader.specs.Spelling as spelling
 use Rattle.c_reader.specs.Spots.{Spot}
 use Rattle.c_reader.specs.Stream.{ahead, rest, Fault, Parser, ◌>>=◌, both, mapped, take_at}
 use Rattle.c_reader.specs.Symbols.{same_symbol, begins_expression}
+use Rattle.c_reader.proofs.Endings.{seen_twice}
+use Rattle.c_reader.proofs.Dependent.{seen_by}
 use Rattle.c_reader.proofs.Indices.{of_expression, of_named, of_called, Read-name}
 use Rattle.c_reader.proofs.Begins.{spells_starts}
-use Rattle.c_reader.proofs.Lists.{followed_at, listed_at, listed_right}
-use Rattle.c_reader.proofs.Looser.{done, same, loose, tighten, Seen-looser, seen_by, seen_twice}
+use Rattle.c_reader.proofs.Listed.{listed_as}
+use Rattle.c_reader.proofs.StatementLoops.{after-taken}
+use Rattle.c_reader.proofs.Looser.{done, same, loose, tighten, Seen-looser}
 use Rattle.c_reader.proofs.Lower.{RightReaders}
 use Rattle.c_reader.proofs.Right.{first, Ends, Stops, Read, Right, always}
 use Rattle.c_reader.proofs.Rules.{Chosen, no_parts, early_seen, token-ahead}
@@ -101,22 +105,20 @@ argument_right n below right (x ∷ xs) ends =
 
 -- ---- arguments with commas between them
 
-more_is : (fuel : ℕ) (p : Parser Arg) (args : List Arg) (i : List Spot) → more_arguments fuel p args i ≡ seen_by (λ ys. args ++ ys) (followed_at fuel p i)
-unfolding more_arguments followed_at
-more_is zero p args i = ap (λ (xs : List Arg). Ok (xs, i)) (sym (append-nil args))
-more_is (suc fuel) p args i = by_test (same_symbol (ahead i) symbol.Comma) (p (rest i)) (λ x. more_is fuel p (args ++ x.0 ∷ []) x.1)
+more_are : (fuel : ℕ) (p : Parser Arg) (args : List Arg) (i : List Spot) → more_arguments fuel p args i ≡ many is_comma (after symbol.Comma p) fuel args i
+unfolding more_arguments many
+more_are zero p args i = refl
+more_are (suc fuel) p args i = by_test (λ xs j. more_are fuel p xs j) (same_symbol (ahead i) symbol.Comma) refl
   where
-    joined : (x : Arg × List Spot) (y : Result (List Arg × List Spot) Fault)
-        → seen_by (λ ys. (args ++ x.0 ∷ []) ++ ys) y ≡ seen_by (λ ys. args ++ ys) (seen_by (λ (z : Arg × List Arg). z.0 ∷ z.1) (y >>= (λ ys. Ok ((x.0, ys.0), ys.1))))
-    joined x (Ok z) = ap (λ (xs : List Arg). Ok (xs, z.1)) (append_assoc args (x.0 ∷ []) z.0)
-    joined x (Err f) = refl
+    each : ((xs : List Arg) (j : List Spot) → more_arguments fuel p xs j ≡ many is_comma (after symbol.Comma p) fuel xs j) → (y : Result (Arg × List Spot) Fault)
+        → (y >>= (λ x. more_arguments fuel p (args ++ x.0 ∷ []) x.1)) ≡ (y >>= (λ x. many is_comma (after symbol.Comma p) fuel (args ++ x.0 ∷ []) x.1))
+    each again (Ok x) = again (args ++ x.0 ∷ []) x.1
+    each again (Err f) = refl
 
-    by_test : (b : Bool) (y : Result (Arg × List Spot) Fault) → ((x : Arg × List Spot) → more_arguments fuel p (args ++ x.0 ∷ []) x.1 ≡ seen_by (λ ys. (args ++ x.0 ∷ []) ++ ys) (followed_at fuel p x.1))
-        → (if b then y >>= (λ x. more_arguments fuel p (args ++ x.0 ∷ []) x.1) else Ok (args, i))
-        ≡ seen_by (λ ys. args ++ ys) (if b then seen_by (λ (z : Arg × List Arg). z.0 ∷ z.1) (y >>= (λ x. followed_at fuel p x.1 >>= (λ ys. Ok ((x.0, ys.0), ys.1)))) else Ok ([], i))
-    by_test true (Ok x) again = again x ∙ joined x (followed_at fuel p x.1)
-    by_test true (Err f) again = refl
-    by_test false y again = ap (λ (xs : List Arg). Ok (xs, i)) (sym (append-nil args))
+    by_test : ((xs : List Arg) (j : List Spot) → more_arguments fuel p xs j ≡ many is_comma (after symbol.Comma p) fuel xs j) → (b : Bool) → same_symbol (ahead i) symbol.Comma ≡ b → (if b then p (rest i) >>= (λ x. more_arguments fuel p (args ++ x.0 ∷ []) x.1) else Ok (args, i))
+        ≡ (if b then after symbol.Comma p i >>= (λ x. many is_comma (after symbol.Comma p) fuel (args ++ x.0 ∷ []) x.1) else Ok (args, i))
+    by_test again true e = each again (p (rest i)) ∙ ap (λ (y : Result (Arg × List Spot) Fault). y >>= (λ x. many is_comma (after symbol.Comma p) fuel (args ++ x.0 ∷ []) x.1)) (sym (after-taken symbol.Comma p i e))
+    by_test again false e = refl
 
 abbrev close : Symbol → Bool
 close s = same_symbol s symbol.CloseParen
@@ -136,18 +138,16 @@ of_listed z = node (a.arg z.0) ∷ followed a.arg z.1
 abbrev stops_listed : Arg × List Arg → Symbol → Bool
 stops_listed z s = close s
 
-listed_is : (below : Readers) (i : List Spot) → listed_by below i ≡ seen_by cons (listed_at (argument_by below) i)
-unfolding listed_by
-listed_is below i = by_result (argument_by below i)
-  where
-    joined : (x : Arg × List Spot) (y : Result (List Arg × List Spot) Fault) → seen_by (λ ys. x.0 ∷ [] ++ ys) y ≡ seen_by cons (y >>= (λ ys. Ok ((x.0, ys.0), ys.1)))
-    joined x (Ok z) = refl
-    joined x (Err f) = refl
+abbrev each_argument : ℕ → Parser Arg → List Arg → Parser (List Arg)
+each_argument fuel p args i = many is_comma (after symbol.Comma p) fuel args i
 
-    by_result : (y : Result (Arg × List Spot) Fault) → (y >>= (λ x. more_arguments (length x.1) (argument_by below) (x.0 ∷ []) x.1))
-        ≡ seen_by cons (y >>= (λ x. followed_at (length x.1) (argument_by below) x.1 >>= (λ ys. Ok ((x.0, ys.0), ys.1))))
-    by_result (Ok x) = more_is (length x.1) (argument_by below) (x.0 ∷ []) x.1 ∙ joined x (followed_at (length x.1) (argument_by below) x.1)
-    by_result (Err f) = refl
+listed_is : (below : Readers) (i : List Spot) → listed_by below i ≡ (argument_by below i >>= (λ x. each_argument (length x.1) (argument_by below) (x.0 ∷ []) x.1))
+unfolding listed_by
+listed_is below i = each (argument_by below i)
+  where
+    each : (y : Result (Arg × List Spot) Fault) → (y >>= (λ x. more_arguments (length x.1) (argument_by below) (x.0 ∷ []) x.1)) ≡ (y >>= (λ x. each_argument (length x.1) (argument_by below) (x.0 ∷ []) x.1))
+    each (Ok x) = more_are (length x.1) (argument_by below) (x.0 ∷ []) x.1
+    each (Err f) = refl
 
 close_expression : (x : Arg) (s : Symbol) → close s ≡ true → ends_expression s ≡ true
 close_expression x symbol.CloseParen e = refl
@@ -163,11 +163,9 @@ args_choice xs u1 u2 s r i (rule.args {x = x} {xs = ys}) sp1 sp2 not st eq h = r
 
 some_args_right : (n : ℕ) (below : Readers) → RightReaders n below → (i : List Spot) → Ends i → close (ahead i) ≡ false → Right of_args n stops_args [] i (listed_by below i)
 some_args_right n below right i ends not = subst (λ (y : Result (List Arg × List Spot) Fault). Right of_args n stops_args [] i y) (sym (listed_is below i))
-    (Right-seen of_listed of_args n n stops_listed stops_args [] i cons
+    (listed_as a.arg n stops_arg close refl (λ x. refl) close_expression (argument_by below) (argument_right n below right) length (λ j. omega arith) {of_y = of_args} {limit' = n} {stops_y = stops_args} {i = i}
     (early_seen (λ xs. a.args xs) of_listed n stops_listed stops_args [] i cons (λ z. rule.args)
-    (λ xs early late c1 c2 u1 u2 s r rule sp1 sp2 st e h. args_choice xs u1 u2 s r i rule sp1 sp2 not st e h))
-    (listed_at (argument_by below) i)
-    (listed_right a.arg n stops_arg close (argument_by below) refl (λ x. refl) close_expression (argument_right n below right) i ends))
+    (λ xs early late c1 c2 u1 u2 s r rule sp1 sp2 st e h. args_choice xs u1 u2 s r i rule sp1 sp2 not st e h)) ends)
 
 -- ---- up to the `)`
 

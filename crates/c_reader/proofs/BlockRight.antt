@@ -1,5 +1,5 @@
 -- Blocks are read rightly, where objects and statements are.
-use Rattle.std.proofs.Common.{◌≡◌, ◌≢◌, ℕ, Bool, true, false, List, [], ◌∷◌, ◌++◌, refl, ap, subst, ◌∙◌, sym}
+use Rattle.std.proofs.Common.{◌≡◌, ◌≢◌, ℕ, Bool, true, false, List, [], ◌∷◌, ◌++◌, refl, ap, subst, ◌∙◌, sym, suc, length, arith}
 use Rattle.std.specs.Prelude.{not}
 use Rattle.sat_base.specs.declared.name.At.{At}
 use Rattle.c_tree.specs.declared.declaration.Objects.{Objects}
@@ -124,12 +124,12 @@ module _ (n : ℕ) (objects : Parser Objects) (objects_right : (i : List Spot) �
   block_objects_right : (i : List Spot) → Ends i → Right each_objects n (stops_many ends_objects) [] i (block_objects_by objects i)
   unfolding block_objects_by
   block_objects_right i ends =
-      many_right of_objects each_objects refl (λ x xs. refl) n always begins_objects ends_objects (λ s e f. negated (begins_objects s) e f) objects_begin objects_filled (λ x xs c v s sp st. refl) objects objects_right i ends
+      many_right of_objects each_objects refl (λ x xs. refl) n always begins_objects ends_objects (λ s e f. negated (begins_objects s) e f) objects_begin objects_filled (λ x xs c v s sp st. refl) objects (λ j ends h. objects_right j ends) (suc (length i)) i ends (omega arith)
 
   statements_right : (i : List Spot) → Ends i → Right each_statement n (stops_many is_brace) [] i (statements_by statement i)
   unfolding statements_by
   statements_right i ends =
-      many_right of_statement each_statement refl (λ x xs. refl) n stops_statement no_brace is_brace (λ s e f. negated_back (is_brace s) e f) statement_begin statement_filled statements_follow statement statement_right i ends
+      many_right of_statement each_statement refl (λ x xs. refl) n stops_statement no_brace is_brace (λ s e f. negated_back (is_brace s) e f) statement_begin statement_filled statements_follow statement (λ j ends h. statement_right j ends) (suc (length i)) i ends (omega arith)
 
   pub block_right : (i : List Spot) → Ends i → Right (λ (b : Block). node (a.block b) ∷ []) n always [] i (block_by objects statement i)
   unfolding block_by
@@ -138,7 +138,7 @@ module _ (n : ℕ) (objects : Parser Objects) (objects_right : (i : List Spot) �
       let last : symbol.CloseBrace ≢ symbol.End = λ e. cc in
       let pair = both (block_objects_by objects) (statements_by statement) in
       let inner : (j : List Spot) → Ends j → Right (λ (z : List Objects × List Stmt). inner_parts z ++ word symbol.CloseBrace ∷ []) n always [] j (closed pair symbol.CloseBrace j) =
-      λ j ends_j. closed_right inner_parts n stops_inner symbol.CloseBrace last ([], []) pair (λ z. refl) [] j
+      λ j ends_j. closed_right inner_parts n stops_inner symbol.CloseBrace last ([], []) pair (λ z. refl) j
       (Right-both each_objects each_statement n (stops_many ends_objects) (stops_many is_brace) objects_follow [] (block_objects_by objects) (statements_by statement) [] j (block_objects_right j ends_j) statements_right) in
       let r = Right-both (λ (at : At). kept symbol.OpenBrace at ∷ []) (λ (z : List Objects × List Stmt). inner_parts z ++ word symbol.CloseBrace ∷ []) n always always
       (λ x z c v s sp st. refl) ([], []) (take_at symbol.OpenBrace) (closed pair symbol.CloseBrace) [] i (take_right symbol.OpenBrace brace n i ends) inner in

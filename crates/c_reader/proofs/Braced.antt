@@ -86,10 +86,6 @@ one_and_tail : {X : Type 0} (p : Parser X) (y : Result (X × List Spot) Fault)
 one_and_tail p (Ok x) = braced_prepend (length x.1) p (x.0 ∷ []) x.1 ∙ put_first x.0 (braced_tail (length x.1) p x.1)
 one_and_tail p (Err f) = refl
 
--- a symbol that is ahead in two lists that are the same
-two_ahead : (i j : List Spot) (s t : Symbol) → i ≡ j → ahead i ≡ s → ahead j ≡ t → s ≡ t
-two_ahead i j s t e f g = sym f ∙ ap ahead e ∙ g
-
 module _ {X : Type 0} (of : X → Node) (limit : ℕ) (stops : Symbol → Bool) (at_comma : stops symbol.Comma ≡ true) (at_close : stops symbol.CloseBrace ≡ true) (p : Parser X)
     (begins : (x : X) (ps : List Part) (c : ℕ) (u s : List Spot) → Spells (node (of x) ∷ ps) c u → ahead (u ++ s) ≢ symbol.CloseBrace)
     (p_right : (i : List Spot) → Ends i → Right (λ (x : X). node (of x) ∷ []) limit (λ x s. stops s) [] i (p i)) where

@@ -13,8 +13,8 @@ use Rattle.c_reader.specs.Marks.{binary_symbol, rank_of}
 use Rattle.c_reader.specs.ReadExpressions.{ranked, if_mark, marks_at, unmarked}
 use Rattle.c_reader.specs.Spelling.{Spells, Front}
 use Rattle.c_reader.specs.Spelling as spelling
-use Rattle.c_reader.specs.Spots.{Spot}
-use Rattle.c_reader.specs.Stream.{ahead, here, rest, Fault, Parser, ◌>>=◌}
+use Rattle.c_reader.specs.Spots.{Spot, here}
+use Rattle.c_reader.specs.Stream.{ahead, rest, Fault, Parser, ◌>>=◌}
 use Rattle.c_reader.specs.Symbols.{binary_mark}
 use Rattle.c_reader.proofs.Chains.{joined, chain_parts, Tail, Peeled, Bare, peel}
 use Rattle.c_reader.proofs.Depths.{spelled_depth}

@@ -17,12 +17,13 @@ use Rattle.c_reader.specs.Spelling as spelling
 use Rattle.c_reader.specs.Spots.{Spot}
 use Rattle.c_reader.specs.Stream.{ahead, rest, Fault, Parser, ◌>>=◌, both, take_at}
 use Rattle.c_reader.specs.Symbols.{same_symbol}
+use Rattle.c_reader.proofs.Dependent.{bad_more}
 use Rattle.c_reader.proofs.Chains.{chain_parts}
 use Rattle.c_reader.proofs.ChainsRight.{depth-is, some_expr}
 use Rattle.c_reader.proofs.ExpressionsRight.{expr_parts}
 use Rattle.c_reader.proofs.Right.{first, first_only, Ends, Stops, Read, Bad, HasFront, Refused, Right, always}
 use Rattle.c_reader.proofs.Sequences.{from_node, from_token, join}
-use Rattle.c_reader.proofs.Steps.{both_parts, both_stops, Follows, bad_more, Right-both}
+use Rattle.c_reader.proofs.Steps.{both_parts, both_stops, Follows, Right-both}
 use Rattle.c_reader.proofs.Stops.{stops_chain, stops_expression, expression-chain}
 use Rattle.c_reader.proofs.SymbolNumbers.{other-is}
 use Rattle.c_reader.proofs.Tokens.{ahead-same, take_right, nowhere}

@@ -1,5 +1,5 @@
 -- Reading one thing after another where the kind of the second depends on the first.
-use Rattle.std.proofs.Common.{◌≡◌, ℕ, max, ◌≤◌, Bool, true, false, List, [], ◌++◌, ◌⊎◌, inl, inr, ap, subst, ◌∙◌, sym, arith}
+use Rattle.std.proofs.Common.{◌≡◌, ℕ, max, ◌≤◌, Bool, true, false, List, [], ◌∷◌, ◌++◌, refl, ◌⊎◌, inl, inr, ap, subst, ◌∙◌, sym, arith}
 use Rattle.std.proofs.lemmas.List.{append_assoc}
 use Rattle.std.specs.Prelude.{Result, Ok, Err}
 use Rattle.c_reader.specs.declared.symbol.Symbol.{Symbol}
@@ -9,11 +9,15 @@ use Rattle.c_reader.specs.Spots.{Spot}
 use Rattle.c_reader.specs.Stream.{Fault, Parser, ◌>>=◌}
 use Rattle.c_reader.proofs.Right.{first, first_only, Stops, Read, Bad, HasFront, Refused, Right}
 use Rattle.c_reader.proofs.Sequences.{split, join, Front-more, Front-after}
-use Rattle.c_reader.proofs.Steps.{first-append}
 
-bad_more : (deep : Bool) (limit c d : ℕ) → c ≤ d → Bad deep limit c → Bad deep limit d
+pub bad_more : (deep : Bool) (limit c d : ℕ) → c ≤ d → Bad deep limit c → Bad deep limit d
 bad_more false limit c d le bad = bad
 bad_more true limit c d le bad = omega arith
+
+-- the first token after some is the same where what is after them begins alike
+pub first-append : (t r s : List Spot) → first r ≡ first s → first (t ++ r) ≡ first (t ++ s)
+first-append [] r s h = h
+first-append (x ∷ xs) r s h = refl
 
 abbrev pub then_parts : {A : Type 0} {B : A → Type 0} → (A → List Part) → ((a : A) → B a → List Part) → (a : A) × B a → List Part
 then_parts of_a of_b x = of_a x.0 ++ of_b x.0 x.1
@@ -44,7 +48,7 @@ module _ {A : Type 0} {B : A → Type 0} (of_a : A → List Part) (of_b : (a : A
   front_first any true tokens rest h = ((h.0, any h.0), h.1, more_fronts h.0 (any h.0) h.1 tokens (tokens ++ first_only rest) h.2, h.3, h.4)
 
   -- the first thing is refused
-  refused_one : ((a : A) → B a) → (before i : List Spot) (f : Fault) → Refused of_a limit stops_a before i f → Refused (then_parts of_a of_b) limit (then_stops stops_b) before i f
+  pub refused_one : ((a : A) → B a) → (before i : List Spot) (f : Fault) → Refused of_a limit stops_a before i f → Refused (then_parts of_a of_b) limit (then_stops stops_b) before i f
   refused_one any before i f r =
       let dead = λ (x : (a : A) × B a) (c : ℕ) (v s rest : List Spot) (sp : Spells (of_a x.0 ++ of_b x.0 x.1) c v) (st : Stops (stops_b x.0) x.1 s) (e : v ++ s ≡ before ++ (r.more ++ rest)) (h : first rest ≡ first r.rest).
       let p = split (of_a x.0) (of_b x.0 x.1) sp in

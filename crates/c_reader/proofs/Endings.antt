@@ -64,6 +64,11 @@ early_ahead u1 u2 v w s e =
 pub early_token : {t : Token} {qs : List Part} {c : ℕ} (u1 u2 v w s : List Spot) → w ≡ (u1 ++ u2) ++ v → Spells (token t ∷ qs) c u1 → ahead (w ++ s) ≡ symbol_of_token t
 early_token u1 u2 v w s e sp = early_ahead u1 u2 v w s e ∙ token-ahead (u2 ++ (v ++ s)) sp
 
+-- what is ahead of what follows a node with nothing in it
+pub nothing_ahead : {c1 c2 : ℕ} (u1 u2 v w s : List Spot) → w ≡ (u1 ++ u2) ++ v → Spells [] c1 u1 → Spells [] c2 u2 → ahead (w ++ s) ≡ ahead (v ++ s)
+nothing_ahead u1 u2 v w s e sp sq =
+    ap (λ (x : List Spot). ahead (x ++ s)) (e ∙ ap (λ (x : List Spot). (x ++ u2) ++ v) (from_nothing sp).tokens ∙ ap (λ (x : List Spot). x ++ v) (from_nothing sq).tokens)
+
 -- what is ahead, by the first token of a rule
 pub rule_ahead : {t : Token} {qs : List Part} {c : ℕ} (u1 u2 s r i : List Spot) → Spells (token t ∷ qs) c u1 → (u1 ++ u2) ++ s ≡ r → first r ≡ first i → ahead i ≡ symbol_of_token t
 rule_ahead u1 u2 s r i sp e h = sym (ap ahead e ∙ ahead-same r i h) ∙ ap ahead (append_assoc u1 u2 s) ∙ token-ahead (u2 ++ s) sp

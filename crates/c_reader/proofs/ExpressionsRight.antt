@@ -13,12 +13,13 @@ use Rattle.c_reader.specs.Spelling.{Spells, Front}
 use Rattle.c_reader.specs.Spelling as spelling
 use Rattle.c_reader.specs.Spots.{Spot}
 use Rattle.c_reader.specs.Stream.{ahead, rest, Fault, Parser, ◌>>=◌}
+use Rattle.c_reader.proofs.Dependent.{bad_more}
 use Rattle.c_reader.proofs.Chains.{chain_parts, Tail, apart}
 use Rattle.c_reader.proofs.ChainsRight.{Known, after_operand, tail-deep, depth-is, marks_right}
 use Rattle.c_reader.proofs.Right.{first, first_only, Ends, Stops, Read, HasFront, Refused, Right}
 use Rattle.c_reader.proofs.Rules.{Choice, no_parts, early_seen}
 use Rattle.c_reader.proofs.Shifts.{unshift}
-use Rattle.c_reader.proofs.Steps.{Seen, bad_more, Right-seen}
+use Rattle.c_reader.proofs.Steps.{Seen, Right-seen}
 use Rattle.c_reader.proofs.Stops.{stops_chain, stops_operand, chain-operand}
 
 abbrev pub unary_parts : Expr → List Part

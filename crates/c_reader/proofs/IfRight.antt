@@ -13,12 +13,14 @@ use Rattle.c_reader.specs.Grammar as rule
 use Rattle.c_reader.specs.Nodes as a
 use Rattle.c_reader.specs.Parts.{Part, node, word, kept}
 use Rattle.c_reader.specs.ReadExpressions.{expression_at}
-use Rattle.c_reader.specs.ReadStatements.{after, condition_at, else_by, if_by}
+use Rattle.c_reader.specs.Lists.{after}
+use Rattle.c_reader.specs.ReadStatements.{condition_at, else_by, if_by}
 use Rattle.c_reader.specs.Spelling.{counted, Spells, Front}
 use Rattle.c_reader.specs.Spelling as spelling
-use Rattle.c_reader.specs.Spots.{Spot}
-use Rattle.c_reader.specs.Stream.{ahead, here, rest, Fault, Parser, ◌>>=◌, both, take_at}
+use Rattle.c_reader.specs.Spots.{Spot, here}
+use Rattle.c_reader.specs.Stream.{ahead, rest, Fault, Parser, ◌>>=◌, both, take_at}
 use Rattle.c_reader.specs.Symbols.{same_symbol}
+use Rattle.c_reader.proofs.Dependent.{first-append}
 use Rattle.c_reader.proofs.Begins.{starts}
 use Rattle.c_reader.proofs.Depths.{nothing_is_flat}
 use Rattle.c_reader.proofs.Right.{first, first_only, Ends, Stops, Read, Bad, HasFront, Refused, Right, always}
@@ -28,7 +30,7 @@ use Rattle.c_reader.proofs.SimpleMarks.{any_expression}
 use Rattle.c_reader.proofs.StatementChoices.{begins_late}
 use Rattle.c_reader.proofs.StatementParts.{condition_right}
 use Rattle.c_reader.proofs.StatementStops.{stops_statement, no_else, stops_alike, open-If, open-Else, else_after, Post, post_both, Closes}
-use Rattle.c_reader.proofs.Steps.{both_stops, Right-both, first-append}
+use Rattle.c_reader.proofs.Steps.{both_stops, Right-both}
 use Rattle.c_reader.proofs.Stops.{stops_expression}
 use Rattle.c_reader.proofs.SymbolNumbers.{same-is}
 use Rattle.c_reader.proofs.Tokens.{Right-if, ahead-same, nowhere, take_right}

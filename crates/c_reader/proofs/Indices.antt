@@ -17,7 +17,9 @@ use Rattle.c_reader.specs.ReadExpressions.{index_by, plain_place, second_by, ind
 use Rattle.c_reader.specs.Spots.{Spot}
 use Rattle.c_reader.specs.Stream.{ahead, Fault, Parser, ◌>>=◌, both, take_at}
 use Rattle.c_reader.specs.Symbols.{same_symbol}
-use Rattle.c_reader.proofs.Looser.{done, same, loose, tighten, Seen-looser, seen_by, seen_twice}
+use Rattle.c_reader.proofs.Endings.{seen_twice}
+use Rattle.c_reader.proofs.Dependent.{seen_by}
+use Rattle.c_reader.proofs.Looser.{done, same, loose, tighten, Seen-looser}
 use Rattle.c_reader.proofs.Optional.{Right-maybe, Read-known}
 use Rattle.c_reader.proofs.Right.{Ends, Stops, Read, Right, always}
 use Rattle.c_reader.proofs.Rules.{Chosen, no_parts, late_seen, token-ahead}

@@ -20,12 +20,11 @@ use Rattle.c_reader.specs.Spelling.{Spells, whole}
 use Rattle.c_reader.specs.Spots.{Spot}
 use Rattle.c_reader.specs.Stream.{ahead, rest, Fault, both}
 use Rattle.c_reader.specs.Symbols.{same_symbol, begins_expression}
-use Rattle.c_reader.proofs.Alternatives.{by_seen, no_node, word_right, word_then, ends_after, ahead_is}
+use Rattle.c_reader.proofs.Alternatives.{by_seen, no_node, word_right, word_then, ends_after, ahead_is, follows_nothing}
 use Rattle.c_reader.proofs.Begins.{row_begins, spells_starts}
-use Rattle.c_reader.proofs.Endings.{early_token}
 use Rattle.c_reader.proofs.Braced.{Tail, tail_parts, tail_true, tail_false, front_of, closes, braced_as, closed_at, closed_right, closed_is}
 use Rattle.c_reader.proofs.Dependent.{seen_by}
-use Rattle.c_reader.proofs.Endings.{then_word, seen_twice, rule_ahead, rule_nothing, rule_next, two_words_then}
+use Rattle.c_reader.proofs.Endings.{then_word, seen_twice, rule_ahead, rule_nothing, rule_next, two_words_then, early_token, nothing_ahead}
 use Rattle.c_reader.proofs.Right.{first, Ends, Stops, Right, always}
 use Rattle.c_reader.proofs.Rules.{Chosen, no_parts, early_seen, symbol_of_token}
 use Rattle.c_reader.proofs.Sequences.{from_nothing}
@@ -286,11 +285,13 @@ start_name symbol.Comma e = refl
 start_name symbol.Semicolon e = refl
 start_name _ e = cc
 
+pub start_then : {x : Init} {ps : List Part} {c : ℕ} {w : List Spot} (P : Symbol → Bool) (s : List Spot) → P symbol.Equal ≡ true → ((d : ℕ) (v : List Spot) → Spells ps d v → P (ahead (v ++ s)) ≡ true)
+    → Spells (node (a.start x) ∷ ps) c w → P (ahead (w ++ s)) ≡ true
+start_then {w = w} P s equal holds (whole {d = d} {u1 = u1} {u2 = u2} {v = v} rule.nothing early late rest e _) = ap P (nothing_ahead u1 u2 v w s e early late) ∙ holds d v rest
+start_then {w = w} P s equal holds (whole {u1 = u1} {u2 = u2} {v = v} rule.one early late rest e _) = ap P (early_token u1 u2 v w s e early) ∙ equal
+start_then {w = w} P s equal holds (whole {u1 = u1} {u2 = u2} {v = v} rule.flat early late rest e _) = ap P (early_token u1 u2 v w s e early) ∙ equal
+start_then {w = w} P s equal holds (whole {u1 = u1} {u2 = u2} {v = v} rule.rows early late rest e _) = ap P (early_token u1 u2 v w s e early) ∙ equal
+start_then {w = w} P s equal holds (whole {u1 = u1} {u2 = u2} {v = v} rule.rows_and_comma early late rest e _) = ap P (early_token u1 u2 v w s e early) ∙ equal
+
 pub start_begins : {x : Init} {c : ℕ} {w : List Spot} (s : List Spot) → Spells (node (a.start x) ∷ []) c w → ends_start (ahead s) ≡ true → ends_name (ahead (w ++ s)) ≡ true
-start_begins {w = w} s (whole {u1 = u1} {u2 = u2} {v = v} rule.nothing early late rest e _) st =
-    let nothing : (u1 ++ u2) ++ v ≡ [] = ap (λ (x : List Spot). (x ++ u2) ++ v) (from_nothing early).tokens ∙ ap (λ (x : List Spot). x ++ v) (from_nothing late).tokens ∙ (from_nothing rest).tokens in
-    ap (λ (x : List Spot). ends_name (ahead (x ++ s))) (e ∙ nothing) ∙ start_name (ahead s) st
-start_begins {w = w} s (whole {u1 = u1} {u2 = u2} {v = v} rule.one early late rest e _) st = ap ends_name (early_token u1 u2 v w s e early)
-start_begins {w = w} s (whole {u1 = u1} {u2 = u2} {v = v} rule.flat early late rest e _) st = ap ends_name (early_token u1 u2 v w s e early)
-start_begins {w = w} s (whole {u1 = u1} {u2 = u2} {v = v} rule.rows early late rest e _) st = ap ends_name (early_token u1 u2 v w s e early)
-start_begins {w = w} s (whole {u1 = u1} {u2 = u2} {v = v} rule.rows_and_comma early late rest e _) st = ap ends_name (early_token u1 u2 v w s e early)
+start_begins s sp st = start_then ends_name s refl (λ d v none. follows_nothing ends_name s none (start_name (ahead s) st)) sp

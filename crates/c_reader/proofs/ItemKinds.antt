@@ -15,8 +15,8 @@ use Rattle.c_reader.specs.Parts.{Part, Kept, node, word, kept, called}
 use Rattle.c_reader.specs.ReadDeclarations.{declarator_at}
 use Rattle.c_reader.specs.ReadExpressions.{type_at, expression_at, argument_at, index_by}
 use Rattle.c_reader.specs.Spelling.{Spells}
-use Rattle.c_reader.specs.Spots.{Spot}
-use Rattle.c_reader.specs.Stream.{ahead, here, rest, Fault, Parser, both, name_at}
+use Rattle.c_reader.specs.Spots.{Spot, here}
+use Rattle.c_reader.specs.Stream.{ahead, rest, Fault, Parser, both, name_at}
 use Rattle.c_reader.specs.Symbols.{same_symbol, begins_type}
 use Rattle.c_reader.proofs.Alternatives.{by_seen, alternative, ends_after, ahead_is, follows_token, token_then}
 use Rattle.c_reader.proofs.Begins.{begins_declarator, spells_starts}
@@ -46,9 +46,6 @@ void_with x = a_void x.0 x.1.0 x.1.1
 
 abbrev pub typed_with : (At × Width) × Rest → Late
 typed_with x = a_typed x.0 x.1
-
-abbrev typed_parts : Quals → (At × Width) × Rest → List Part
-typed_parts q x = node (a.type_ x.0.0 x.0.1) ∷ rest_parts (specified q x.0) x.1
 
 abbrev named_function : Named × FunctionRest → List Part
 named_function x = called x.0 ∷ function_rest x.1

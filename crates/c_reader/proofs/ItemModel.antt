@@ -14,11 +14,12 @@ use Rattle.c_tree.specs.declared.statement.Block.{Block}
 use Rattle.c_reader.specs.declared.declaration.Qualifiers.{Qualifiers}
 use Rattle.c_reader.specs.declared.declaration.Specifiers.{Specifiers}
 use Rattle.c_reader.specs.declared.symbol.Symbol.TheVariants as symbol
-use Rattle.c_reader.specs.ReadDeclarations.{word_at, more_listed, qualifiers_at, dimensions_at, start_at, object_of, view_at, named_declarator_at, declarator_at, objects_from_at}
+use Rattle.c_reader.specs.Lists.{more_listed}
+use Rattle.c_reader.specs.ReadDeclarations.{word_at, qualifiers_at, dimensions_at, start_at, object_of, view_at, named_declarator_at, declarator_at, objects_from_at}
 use Rattle.c_reader.specs.ReadExpressions.{type_at}
 use Rattle.c_reader.specs.ReadSource.{function_of, function_at, with_width, objects_item_at, after_name_at, after_type_at, typed_item_at, qualified_item_at}
-use Rattle.c_reader.specs.Spots.{Spot}
-use Rattle.c_reader.specs.Stream.{ahead, here, rest, Fault, Parser, ◌>>=◌, both, name_at}
+use Rattle.c_reader.specs.Spots.{Spot, here}
+use Rattle.c_reader.specs.Stream.{ahead, rest, Fault, Parser, ◌>>=◌, both, name_at}
 use Rattle.c_reader.specs.Symbols.{same_symbol}
 use Rattle.c_reader.proofs.Declarators.{spec, Dims}
 use Rattle.c_reader.proofs.Dependent.{then_read, seen_by}
@@ -117,9 +118,9 @@ module _ (block : Parser Block) (n : ℕ) where
 
     plain_object : (name : Named) (y : Result ((Dims × Init) × List Spot) Fault)
         → (seen_by (λ (x : Dims × Init). object_of plain name x.0 x.1) y >>= (λ d. seen_by an_objects (objects_from_at n plain d.0 d.1)))
-        ≡ seen_after name (seen_by object_with (then_read {B = λ x. List Decl} y (λ x k. word_after symbol.Semicolon (more_listed (length k) (declarator_at n plain) [] k))))
+        ≡ seen_after name (seen_by object_with (then_read {B = λ x. List Decl} y (λ x k. word_after symbol.Semicolon (more_listed (declarator_at n plain) [] k))))
     plain_object name (Ok y) =
-        objects_seen n plain (Ok (object_of plain name y.0.0 y.0.1, y.1)) ∙ plain_last name y.0 (more_listed (length y.1) (declarator_at n plain) [] y.1)
+        objects_seen n plain (Ok (object_of plain name y.0.0 y.0.1, y.1)) ∙ plain_last name y.0 (more_listed (declarator_at n plain) [] y.1)
     plain_object name (Err f) = refl
 
     plain_name : (name : Named) (k : List Spot) → after_name_at block n plain name k ≡ seen_after name (read_after block n plain k)

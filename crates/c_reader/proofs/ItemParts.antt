@@ -70,9 +70,6 @@ objects_become q x ds =
 abbrev after_given : Named → FunctionRest → List Part
 after_given name f = called name ∷ function_rest f
 
-function_becomes : (f : Function) (ps : List Part) → Becomes ps (node (a.function f) ∷ []) → Becomes ps (item_node (item.Function f))
-function_becomes f ps b = becomes_then b (becomes_all (rule.item_function refl))
-
 items_become : (q : Quals) (x : Kind (const_quals q)) → Becomes (item_parts (q, x)) (item_node (whole_item (q, x)))
 items_become none (a_void at name f) =
     becomes_then (becomes_node (after_given name f) rule.result_void) (becomes_then (becomes_node (after_given name f) rule.given) (becomes_then (becomes_all (rule.function refl)) (becomes_all (rule.item_function refl))))

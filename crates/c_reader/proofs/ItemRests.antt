@@ -1,5 +1,5 @@
 -- Reading what follows the type of an item where it may be a function or objects.
-use Rattle.std.proofs.Common.{◌≡◌, ◌≢◌, ℕ, Bool, true, false, List, [], ◌∷◌, ◌++◌, length, Option, None, refl, ap, ◌∙◌, sym, arith}
+use Rattle.std.proofs.Common.{◌≡◌, ◌≢◌, ℕ, Bool, true, false, List, [], ◌∷◌, ◌++◌, length, Option, None, refl, ap, ◌∙◌, sym, arith, suc}
 use Rattle.std.specs.Prelude.{if◌then◌else◌}
 use Rattle.sat_base.specs.declared.name.At.{At}
 use Rattle.sat_base.specs.declared.name.Named.{Named}
@@ -16,7 +16,8 @@ use Rattle.c_reader.specs.declared.symbol.Symbol.TheVariants as symbol
 use Rattle.c_reader.specs.Grammar as rule
 use Rattle.c_reader.specs.Nodes as a
 use Rattle.c_reader.specs.Parts.{Part, node, word, kept, called, followed}
-use Rattle.c_reader.specs.ReadDeclarations.{more_listed, dimensions_at, start_at, object_of, declarator_at}
+use Rattle.c_reader.specs.Lists.{more_listed}
+use Rattle.c_reader.specs.ReadDeclarations.{dimensions_at, start_at, object_of, declarator_at}
 use Rattle.c_reader.specs.ReadExpressions.{type_at, expression_at, argument_at, index_by}
 use Rattle.c_reader.specs.Spelling.{Spells, whole}
 use Rattle.c_reader.specs.Spots.{Spot}
@@ -25,14 +26,14 @@ use Rattle.c_reader.specs.Symbols.{same_symbol}
 use Rattle.c_reader.proofs.Alternatives.{by_seen, alternative, ahead_is, follows_token}
 use Rattle.c_reader.proofs.Becoming.{Back, becoming}
 use Rattle.c_reader.proofs.Begins.{begins_declarator, dimension_begins, spells_starts}
-use Rattle.c_reader.proofs.Endings.{early_ahead, early_token}
+use Rattle.c_reader.proofs.Endings.{nothing_ahead, early_ahead, early_token}
 use Rattle.c_reader.proofs.Declarators.{Dims, object_rest, object_rest_right, declarator_right}
 use Rattle.c_reader.proofs.Dependent.{seen_by}
 use Rattle.c_reader.proofs.Endings.{word_after, then_word}
 use Rattle.c_reader.proofs.Functions.{FunctionRest, function_rest, read_function, function_right}
-use Rattle.c_reader.proofs.Initialisers.{ends_start, stops_start}
+use Rattle.c_reader.proofs.Initialisers.{ends_start, stops_start, start_then}
 use Rattle.c_reader.proofs.Inlined.{Becomes, becomes_same, becomes_node, unfold_whole}
-use Rattle.c_reader.proofs.Listed.{ends_list, followed_right}
+use Rattle.c_reader.proofs.Listed.{ends_list, ends_one, more_right}
 use Rattle.c_reader.proofs.ObjectsRight.{Decls, decls_parts, declared_from, declared_right}
 use Rattle.c_reader.proofs.Right.{first, Ends, Stops, Right, always}
 use Rattle.c_reader.proofs.Sequences.{from_nothing}
@@ -45,21 +46,9 @@ use Rattle.c_tree.specs.declared.declaration.Init.TheVariants as init
 
 -- ---- what is ahead of parts that may be nothing
 
-start_then : {x : Init} {ps : List Part} {c : ℕ} {w : List Spot} (P : Symbol → Bool) (s : List Spot) → P symbol.Equal ≡ true → ((d : ℕ) (v : List Spot) → Spells ps d v → P (ahead (v ++ s)) ≡ true)
-    → Spells (node (a.start x) ∷ ps) c w → P (ahead (w ++ s)) ≡ true
-start_then {w = w} P s equal holds (whole {d = d} {u1 = u1} {u2 = u2} {v = v} rule.nothing early late rest e _) =
-    let nothing : (u1 ++ u2) ++ v ≡ v = ap (λ (x : List Spot). (x ++ u2) ++ v) (from_nothing early).tokens ∙ ap (λ (x : List Spot). x ++ v) (from_nothing late).tokens in
-    ap (λ (x : List Spot). P (ahead (x ++ s))) (e ∙ nothing) ∙ holds d v rest
-start_then {w = w} P s equal holds (whole {u1 = u1} {u2 = u2} {v = v} rule.one early late rest e _) = ap P (early_token u1 u2 v w s e early) ∙ equal
-start_then {w = w} P s equal holds (whole {u1 = u1} {u2 = u2} {v = v} rule.flat early late rest e _) = ap P (early_token u1 u2 v w s e early) ∙ equal
-start_then {w = w} P s equal holds (whole {u1 = u1} {u2 = u2} {v = v} rule.rows early late rest e _) = ap P (early_token u1 u2 v w s e early) ∙ equal
-start_then {w = w} P s equal holds (whole {u1 = u1} {u2 = u2} {v = v} rule.rows_and_comma early late rest e _) = ap P (early_token u1 u2 v w s e early) ∙ equal
-
 dims_then : {rows cols : Option Dim} {ps : List Part} {c : ℕ} {w : List Spot} (P : Symbol → Bool) (s : List Spot) → P symbol.OpenBracket ≡ true → ((d : ℕ) (v : List Spot) → Spells ps d v → P (ahead (v ++ s)) ≡ true)
     → Spells (node (a.dimensions rows cols) ∷ ps) c w → P (ahead (w ++ s)) ≡ true
-dims_then {w = w} P s bracket holds (whole {d = d} {u1 = u1} {u2 = u2} {v = v} rule.scalar early late rest e _) =
-    let nothing : (u1 ++ u2) ++ v ≡ v = ap (λ (x : List Spot). (x ++ u2) ++ v) (from_nothing early).tokens ∙ ap (λ (x : List Spot). x ++ v) (from_nothing late).tokens in
-    ap (λ (x : List Spot). P (ahead (x ++ s))) (e ∙ nothing) ∙ holds d v rest
+dims_then {w = w} P s bracket holds (whole {d = d} {u1 = u1} {u2 = u2} {v = v} rule.scalar early late rest e _) = ap P (nothing_ahead u1 u2 v w s e early late) ∙ holds d v rest
 dims_then {w = w} P s bracket holds (whole {u1 = u1} {u2 = u2} {v = v} rule.array early late rest e _) = ap P (early_ahead u1 u2 v w s e ∙ dimension_begins (u2 ++ (v ++ s)) early) ∙ bracket
 dims_then {w = w} P s bracket holds (whole {u1 = u1} {u2 = u2} {v = v} rule.table early late rest e _) = ap P (early_ahead u1 u2 v w s e ∙ dimension_begins (u2 ++ (v ++ s)) early) ∙ bracket
 
@@ -81,7 +70,7 @@ abbrev pub object_with : (Dims × Init) × List Decl → AfterName
 object_with x = an_object x.0 x.1
 
 abbrev pub read_object : ℕ → Specifiers → Parser ((Dims × Init) × List Decl)
-read_object n s = both (both (dimensions_at n) (start_at n)) (λ k. word_after symbol.Semicolon (more_listed (length k) (declarator_at n s) [] k))
+read_object n s = both (both (dimensions_at n) (start_at n)) (λ k. word_after symbol.Semicolon (more_listed (declarator_at n s) [] k))
 
 abbrev pub read_after : Parser Block → ℕ → Specifiers → Parser AfterName
 read_after block n s k = if same_symbol (ahead k) symbol.OpenParen then seen_by a_function (read_function block n k) else seen_by object_with (read_object n s k)
@@ -154,11 +143,11 @@ module _ (n : ℕ) (block : Parser Block)
   object_right : (k : List Spot) → Ends k → Right object_parts n always [] k (read_object n s k)
   object_right k ends =
       Right-both object_rest (decls_after s) n stops_start always (λ x ds c v t sp st. decls_ahead s ds c v t sp) []
-      (both (dimensions_at n) (start_at n)) (λ k. word_after symbol.Semicolon (more_listed (length k) (declarator_at n s) [] k)) [] k
+      (both (dimensions_at n) (start_at n)) (λ k. word_after symbol.Semicolon (more_listed (declarator_at n s) [] k)) [] k
       (object_rest_right n expression_right argument_right index_right k ends)
       (λ j more. then_word symbol.Semicolon (λ g. cc) (λ (ds : List Decl). followed (a.declarator s.quals.is_static s.quals.is_const s.width) ds) n (λ x t. ends_list ends_start t) (λ x. refl) j
-      (more_listed (length j) (declarator_at n s) [] j)
-      (followed_right (a.declarator s.quals.is_static s.quals.is_const s.width) n ends_start refl (declarator_at n s) (declarator_right n expression_right argument_right index_right s) (length j) j more (omega arith)))
+      (more_listed (declarator_at n s) [] j)
+      (more_right (a.declarator s.quals.is_static s.quals.is_const s.width) n (λ d t. ends_start t) (ends_list ends_start) refl (λ d. refl) (λ d t e. ends_one ends_start t e) (declarator_at n s) (declarator_right n expression_right argument_right index_right s) (suc (length j)) j more (omega arith)))
 
   after_right : (k : List Spot) → Ends k → Right (after_parts s) n always [] k (read_after block n s k)
   after_right k ends =

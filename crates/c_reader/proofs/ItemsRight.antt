@@ -1,7 +1,7 @@
 -- Reading items, and lists of them.
 use Rattle.std.proofs.Common.{◌≡◌, ◌≢◌, ℕ, zero, suc, ◌≤◌, Bool, true, false, List, [], ◌∷◌, ◌++◌, length, Option, Some, refl, ap, subst, ◌∙◌, sym, arith, length-append}
 use Rattle.std.proofs.lemmas.List.{append_assoc, append-nil}
-use Rattle.std.specs.Prelude.{Result, Ok, Err, if◌then◌else◌}
+use Rattle.std.specs.Prelude.{not, Result, Ok, Err, if◌then◌else◌}
 use Rattle.sat_base.specs.declared.name.At.{At}
 use Rattle.sat_base.specs.declared.width.Width.{Width}
 use Rattle.c_tree.specs.declared.call.Arg.{Arg}
@@ -15,11 +15,12 @@ use Rattle.c_reader.specs.declared.symbol.Symbol.{Symbol}
 use Rattle.c_reader.specs.declared.symbol.Symbol.TheVariants as symbol
 use Rattle.c_reader.specs.Grammar.{Rule}
 use Rattle.c_reader.specs.Grammar as rule
+use Rattle.c_reader.specs.Lists.{many}
 use Rattle.c_reader.specs.Nodes as a
 use Rattle.c_reader.specs.Parts.{Part, node, word, kept, each}
 use Rattle.c_reader.specs.ReadDeclarations.{word_at, qualifiers_at}
 use Rattle.c_reader.specs.ReadExpressions.{type_at, expression_at, argument_at, index_by}
-use Rattle.c_reader.specs.ReadSource.{flag_type_at, extern_flag_at, qualified_item_at, item_at, more_items, items_at}
+use Rattle.c_reader.specs.ReadSource.{flag_type_at, extern_flag_at, qualified_item_at, item_at, before_end, items_at}
 use Rattle.c_reader.specs.Spelling.{Spells, whole}
 use Rattle.c_reader.specs.Spots.{Spot}
 use Rattle.c_reader.specs.Stream.{ahead, Fault, Parser, ◌>>=◌, both, take_at}
@@ -30,10 +31,12 @@ use Rattle.c_reader.proofs.Dependent.{then_right, then_read, seen_by, read_as}
 use Rattle.c_reader.proofs.ItemKinds.{read_item, parts_right}
 use Rattle.c_reader.proofs.ItemModel.{item_is}
 use Rattle.c_reader.proofs.ItemParts.{item_seen}
+use Rattle.c_reader.proofs.Many.{front_of, one_and_many, many_right}
 use Rattle.c_reader.proofs.Right.{first, Ends, Stops, Right, always}
 use Rattle.c_reader.proofs.Rules.{Chosen, no_parts, early_seen}
 use Rattle.c_reader.proofs.Sequences.{from_nothing}
 use Rattle.c_reader.proofs.Specifiers.{no_int}
+use Rattle.c_reader.proofs.StatementParts.{apart_by}
 use Rattle.c_reader.proofs.Steps.{Right-both}
 use Rattle.c_reader.proofs.Stops.{ends_expression, stops_expression}
 use Rattle.c_reader.proofs.SymbolNumbers.{same-is, other-is}
@@ -107,87 +110,26 @@ extern_right n i ends is =
 
 -- ---- the list
 
-abbrev pub front_of : Item × List Item → List Item
-front_of x = x.0 ∷ x.1
-
-abbrev pub items_parts : Item × List Item → List Part
-items_parts x = node (a.item x.0) ∷ each a.item x.1
-
 -- the end follows
-abbrev pub at_end : {A : Type 0} → A → Symbol → Bool
-at_end x s = same_symbol s symbol.End
-
-put_together : (xs : List Item) (x : Item) (m : Result (List Item × List Spot) Fault) → seen_by (λ (l : List Item). (xs ++ x ∷ []) ++ l) m ≡ seen_by (λ (l : List Item). xs ++ l) (seen_by (λ (l : List Item). x ∷ l) m)
-put_together xs x (Ok z) = ap (λ (l : List Item). read_as l z.1) (append_assoc xs (x ∷ []) z.0)
-put_together xs x (Err f) = refl
-
-put_first : (x : Item) (m : Result (List Item × List Spot) Fault) → seen_by (λ (l : List Item). x ∷ l) m ≡ seen_by front_of (then_read {B = λ x. List Item} (Ok (x, [])) (λ x j. m))
-put_first x (Ok z) = refl
-put_first x (Err f) = refl
-
-items_prepend : (fuel : ℕ) (p : Parser Item) (xs : List Item) (i : List Spot) → more_items fuel p xs i ≡ seen_by (λ (l : List Item). xs ++ l) (more_items fuel p [] i)
-unfolding more_items
-items_prepend zero p xs i = ap (λ (l : List Item). read_as l i) (sym (append-nil xs))
-items_prepend (suc fuel) p xs i = step (λ ys j. items_prepend fuel p ys j) (same_symbol (ahead i) symbol.End) (p i)
-  where
-    step : ((ys : List Item) (j : List Spot) → more_items fuel p ys j ≡ seen_by (λ (l : List Item). ys ++ l) (more_items fuel p [] j)) → (b : Bool) (y : Result (Item × List Spot) Fault)
-        → (if b then Ok (xs, i) else (y >>= (λ x. more_items fuel p (xs ++ x.0 ∷ []) x.1))) ≡ seen_by (λ (l : List Item). xs ++ l) (if b then Ok ([], i) else (y >>= (λ x. more_items fuel p (x.0 ∷ []) x.1)))
-    step more true y = ap (λ (l : List Item). read_as l i) (sym (append-nil xs))
-    step more false (Err f) = refl
-    step more false (Ok x) = more (xs ++ x.0 ∷ []) x.1 ∙ put_together xs x.0 (more_items fuel p [] x.1) ∙ ap (seen_by (λ (l : List Item). xs ++ l)) (sym (more (x.0 ∷ []) x.1))
-
-one_and_more : (fuel : List Spot → ℕ) (p : Parser Item) (y : Result (Item × List Spot) Fault)
-    → (y >>= (λ x. more_items (fuel x.1) p (x.0 ∷ []) x.1)) ≡ seen_by front_of (then_read {B = λ x. List Item} y (λ x j. more_items (fuel j) p [] j))
-one_and_more fuel p (Ok x) = items_prepend (fuel x.1) p (x.0 ∷ []) x.1 ∙ put_first x.0 (more_items (fuel x.1) p [] x.1)
-one_and_more fuel p (Err f) = refl
+abbrev is_end : Symbol → Bool
+is_end s = same_symbol s symbol.End
 
 -- the first item, and those that follow
 abbrev pub read_items : Parser Block → ℕ → List Spot → Result ((Item × List Item) × List Spot) Fault
-read_items block n i = then_read {B = λ x. List Item} (item_at block n i) (λ x j. more_items (length j) (item_at block n) [] j)
+read_items block n i = then_read {B = λ x. List Item} (item_at block n i) (λ x j. many before_end (item_at block n) (suc (length j)) [] j)
 
 pub items_are : (block : Parser Block) (n : ℕ) (i : List Spot) → items_at block n i ≡ seen_by front_of (read_items block n i)
 unfolding items_at
-items_are block n i = one_and_more length (item_at block n) (item_at block n i)
+items_are block n i = one_and_many before_end (item_at block n) (λ j. suc (length j)) (item_at block n i)
 
-module _ (n : ℕ) (p : Parser Item) (p_right : (i : List Spot) → Ends i → Right (λ (x : Item). node (a.item x) ∷ []) n always [] i (p i)) where
-  -- an item has a token
-  shorter : (x : Item) (d : ℕ) (more i j : List Spot) → Spells (node (a.item x) ∷ []) d more → i ≡ more ++ j → suc (length j) ≤ length i
-  shorter x d [] i j sp e = absurd (wrong begins_item symbol.End symbol.End (spells_starts [] sp) refl refl)
-  shorter x d (y ∷ ys) i j sp e = omega (arith, ap (length {A = Spot}) e, length-append (y ∷ ys) j)
+end_apart : (s : Symbol) → before_end s ≡ true → is_end s ≡ true → ⊥
+end_apart s e f = let g : before_end s ≡ false = ap not f in cc (e, g)
 
-  one_right : (fuel : List Spot → ℕ) (i : List Spot) → Ends i → ((j : List Spot) → Ends j → suc (length j) ≤ length i → Right (each a.item) n at_end [] j (more_items (fuel j) p [] j))
-      → Right items_parts n at_end [] i (then_read {B = λ x. List Item} (p i) (λ x j. more_items (fuel j) p [] j))
-  one_right fuel i ends next =
-      then_right (λ (x : Item). node (a.item x) ∷ []) (λ x. each a.item) n always (λ x. at_end) (λ x y c v s sp st. refl) (λ x. []) (p i) (λ x j. more_items (fuel j) p [] j) [] i (p_right i ends)
-      (λ x j r. next j r.ends (shorter x r.depth r.more i j r.spelled r.whole))
+item_begins : (x : Item) (c : ℕ) (v s : List Spot) → Spells (node (a.item x) ∷ []) c v → before_end (ahead (v ++ s)) ≡ true
+item_begins x c v s sp = ap not (apart_by begins_item (ahead (v ++ s)) symbol.End (spells_starts s sp) refl)
 
-  at_the_end : (c : Spot) (cs : List Spot) → Ends (c ∷ cs) → c.symbol ≡ symbol.End → Right (each a.item) n at_end [] (c ∷ cs) (Ok ([], c ∷ cs))
-  at_the_end c cs ends is = nothing_right (each a.item) n at_end (c ∷ cs) [] ends refl which
-    where
-      which : (xs : List Item) (d : ℕ) (v s r : List Spot) → Spells (each a.item xs) d v → Stops at_end xs s → v ++ s ≡ r → first r ≡ Some c → (xs ≡ []) × (v ≡ [])
-      which [] d v s r sp st e h = (refl, (from_nothing sp).tokens)
-      which (x ∷ xs) d v s r sp st e h = absurd (wrong begins_item (ahead (v ++ s)) symbol.End (spells_starts s sp) (ap ahead e ∙ ahead-same r (c ∷ cs) h ∙ is) refl)
-
-  another : (fuel : ℕ) (c : Spot) (cs : List Spot) → Ends (c ∷ cs) → ((j : List Spot) → Ends j → length j ≤ fuel → Right (each a.item) n at_end [] j (more_items fuel p [] j)) → length (c ∷ cs) ≤ suc fuel
-      → c.symbol ≢ symbol.End → Right (each a.item) n at_end [] (c ∷ cs) (p (c ∷ cs) >>= (λ x. more_items fuel p (x.0 ∷ []) x.1))
-  another fuel c cs ends next le ne =
-      subst (Right (each a.item) n at_end [] (c ∷ cs)) (sym (one_and_more (λ j. fuel) p (p (c ∷ cs))))
-      (by_seen (alternative (each a.item) n at_end [] (c ∷ cs) front_of which) (then_read {B = λ x. List Item} (p (c ∷ cs)) (λ x j. more_items fuel p [] j))
-      (one_right (λ j. fuel) (c ∷ cs) ends (λ j more less. next j more (omega arith))))
-    where
-      which : (xs : List Item) (d : ℕ) (v s r : List Spot) → Spells (each a.item xs) d v → Stops at_end xs s → v ++ s ≡ r → first r ≡ Some c → (x : Item × List Item) × (xs ≡ x.0 ∷ x.1)
-      which (x ∷ xs) d v s r sp st e h = ((x, xs), refl)
-      which [] d v s r sp st e h =
-          let f : ahead s ≡ c.symbol = ap (λ (w : List Spot). ahead (w ++ s)) (sym (from_nothing sp).tokens) ∙ ap ahead e ∙ ahead-same r (c ∷ cs) h in
-          absurd (ne (sym f ∙ same-is (ahead s) symbol.End st))
-
-  more_right : (fuel : ℕ) (i : List Spot) → Ends i → length i ≤ fuel → Right (each a.item) n at_end [] i (more_items fuel p [] i)
-  unfolding more_items
-  more_right fuel [] ends le = absurd ends
-  more_right zero (c ∷ cs) ends le = absurd (omega arith)
-  more_right (suc fuel) (c ∷ cs) ends le =
-      Right-if (each a.item) n at_end [] (c ∷ cs) (same_symbol c.symbol symbol.End) (Ok ([], c ∷ cs)) (p (c ∷ cs) >>= (λ x. more_items fuel p (x.0 ∷ []) x.1))
-      (λ e. at_the_end c cs ends (same-is c.symbol symbol.End e)) (λ e. another fuel c cs ends (λ j more less. more_right fuel j more less) le (other-is c.symbol symbol.End e))
+item_filled : (x : Item) (c : ℕ) → Spells (node (a.item x) ∷ []) c [] → ⊥
+item_filled x c sp = wrong begins_item symbol.End symbol.End (spells_starts [] sp) refl refl
 
 module _ (n : ℕ) (block : Parser Block)
     (block_right : (i : List Spot) → Ends i → Right (λ (b : Block). node (a.block b) ∷ []) n always [] i (block i))
@@ -206,4 +148,7 @@ module _ (n : ℕ) (block : Parser Block)
 
   -- one item or more, which the end follows
   pub items_right : (i : List Spot) → Ends i → Right (λ (x : Item × List Item). each a.item (x.0 ∷ x.1)) n (λ x s. same_symbol s symbol.End) [] i (read_items block n i)
-  items_right i ends = one_right n (item_at block n) item_right length i ends (λ j more less. more_right n (item_at block n) item_right (length j) j more (omega arith))
+  items_right i ends =
+      then_right (λ (x : Item). node (a.item x) ∷ []) (λ x. each a.item) n always (λ x ys s. is_end s) (λ x y c v s sp st. refl) (λ x. []) (item_at block n i) (λ x j. many before_end (item_at block n) (suc (length j)) [] j) [] i
+      (item_right i ends)
+      (λ x j r. many_right (λ (x : Item). node (a.item x) ∷ []) (each a.item) refl (λ x xs. refl) n always before_end is_end end_apart item_begins item_filled (λ x xs c v s sp st. refl) (item_at block n) (λ k ends h. item_right k ends) (suc (length j)) j r.ends (omega arith))

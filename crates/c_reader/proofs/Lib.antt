@@ -15,7 +15,6 @@ pub mod Dimensions
 pub mod Endings
 pub mod ExpressionStep
 pub mod ExpressionsRight
-pub mod Folds
 pub mod Functions
 pub mod Going
 pub mod HeightEquations
@@ -29,7 +28,6 @@ pub mod ItemParts
 pub mod ItemRests
 pub mod ItemsRight
 pub mod Listed
-pub mod Lists
 pub mod Loops
 pub mod Looser
 pub mod Lower

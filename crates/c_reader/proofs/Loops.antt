@@ -11,8 +11,8 @@ use Rattle.c_reader.specs.ReadExpressions.{ranked, if_mark, if_shallow, marks_at
 use Rattle.c_reader.specs.Gives.{Fails}
 use Rattle.c_reader.specs.declared.refusal.ReadRefusal.{ReadRefusal}
 use Rattle.c_reader.specs.declared.refusal.ReadRefusal.TheVariants as refusal
-use Rattle.c_reader.specs.Spots.{Spot}
-use Rattle.c_reader.specs.Stream.{ahead, here, rest, Fault, Parser, ◌>>=◌, too_deep_at}
+use Rattle.c_reader.specs.Spots.{Spot, here}
+use Rattle.c_reader.specs.Stream.{ahead, rest, Fault, Parser, ◌>>=◌, too_deep_at}
 use Rattle.c_reader.specs.Symbols.{binary_mark, same_symbol}
 
 module _ (rank limit : ℕ) (right : Parser Expr) where
@@ -49,38 +49,6 @@ module _ (rank limit : ℕ) (right : Parser Expr) where
     shorter i le (not-empty i m e) less,
     marked f l i m e ∙ ap (λ (b : Bool). if b then too_deep_at i else (right (rest i) >>= (λ x. marks_at f rank limit right (unmarked l.at (kind.Binary m (here i) l x.0)) x.1))) h
         ∙ ap (λ (y : Result (Expr × List Spot) Fault). y >>= (λ x. marks_at f rank limit right (unmarked l.at (kind.Binary m (here i) l x.0)) x.1)) g,
-  )
-    where
-      shorter : (i : List Spot) → length i ≤ suc f → 1 ≤ length i → length j ≤ length (rest i) → length j ≤ f
-      shorter [] le some less = omega (arith, some)
-      shorter (x ∷ xs) le some less = omega (arith, le, less)
-
-module _ (argument : Parser Arg) where
-  comma-not-empty : (i : List Spot) → same_symbol (ahead i) symbol.Comma ≡ true → 1 ≤ length i
-  comma-not-empty [] e = cc
-  comma-not-empty (x ∷ xs) e = omega arith
-
-  pub arguments_stop : (f : ℕ) (args : List Arg) (i : List Spot) → same_symbol (ahead i) symbol.Comma ≡ false → more_arguments f argument args i ≡ Ok (args, i)
-  unfolding more_arguments
-  arguments_stop zero args i e = refl
-  arguments_stop (suc f) args i e = ap (λ (b : Bool). if b then (argument (rest i) >>= (λ x. more_arguments f argument (args ++ x.0 ∷ []) x.1)) else Ok (args, i)) e
-
-  pub arguments_fail : (f : ℕ) (args : List Arg) (i : List Spot) (e : Fault) → length i ≤ f → same_symbol (ahead i) symbol.Comma ≡ true → argument (rest i) ≡ Err e → more_arguments f argument args i ≡ Err e
-  unfolding more_arguments
-  arguments_fail zero args i e le s g = absurd (omega (arith, le, comma-not-empty i s))
-  arguments_fail (suc f) args i e le s g =
-      ap (λ (b : Bool). if b then (argument (rest i) >>= (λ x. more_arguments f argument (args ++ x.0 ∷ []) x.1)) else Ok (args, i)) s
-      ∙ ap (λ (y : Result (Arg × List Spot) Fault). y >>= (λ x. more_arguments f argument (args ++ x.0 ∷ []) x.1)) g
-
-  pub arguments_next : (f : ℕ) (args : List Arg) (i : List Spot) (x : Arg) (j : List Spot) → length i ≤ f → same_symbol (ahead i) symbol.Comma ≡ true → argument (rest i) ≡ Ok (x, j) → length j ≤ length (rest i)
-      → (g : ℕ) × (length j ≤ g) × (more_arguments f argument args i ≡ more_arguments g argument (args ++ x ∷ []) j)
-  unfolding more_arguments
-  arguments_next zero args i x j le s g less = absurd (omega (arith, le, comma-not-empty i s))
-  arguments_next (suc f) args i x j le s g less = (
-    f,
-    shorter i le (comma-not-empty i s) less,
-    ap (λ (b : Bool). if b then (argument (rest i) >>= (λ x. more_arguments f argument (args ++ x.0 ∷ []) x.1)) else Ok (args, i)) s
-        ∙ ap (λ (y : Result (Arg × List Spot) Fault). y >>= (λ x. more_arguments f argument (args ++ x.0 ∷ []) x.1)) g,
   )
     where
       shorter : (i : List Spot) → length i ≤ suc f → 1 ≤ length i → length j ≤ length (rest i) → length j ≤ f

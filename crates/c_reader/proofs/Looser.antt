@@ -60,12 +60,3 @@ Seen-looser {A} {X} of_a of_x limit stops_a stops_x before i mk looser back = re
   front = λ a c u f. (c, Front-looser (looser a) f, λ lt. lt);
   back = λ x d v s r sp st e h. let b = back x d v s r sp st e h in (b.0, d, b.1, b.2, b.3, λ lt. lt);
 }
-
--- ---- results, seen by functions
-
-abbrev pub seen_by : {A B : Type 0} → (A → B) → Result (A × List Spot) Fault → Result (B × List Spot) Fault
-seen_by f y = y >>= (λ z. Ok (f z.0, z.1))
-
-pub seen_twice : {A B C : Type 0} (f : A → B) (g : B → C) (y : Result (A × List Spot) Fault) → seen_by g (seen_by f y) ≡ seen_by (λ a. g (f a)) y
-seen_twice f g (Ok z) = refl
-seen_twice f g (Err e) = refl

@@ -21,25 +21,3 @@ pub record RightReaders (n : ℕ) (r : Readers) : Type 0 where
   pub indirection : (i : List Spot) → Ends i → ahead i ≡ symbol.Star → Right (λ (p : Place). node (a.place p) ∷ []) n always [] i (r.indirection i)
   pub unary : (i : List Spot) → Ends i → Right (λ (e : Expr). node (a.unary e) ∷ []) n stops_operand [] i (r.unary i)
   pub expression : (i : List Spot) → Ends i → Right (λ (e : Expr). node (a.expr e) ∷ []) n stops_expression [] i (r.expression i)
-
--- fewer things may follow
-pub Right-stops : {A : Type 0} (of : A → List Part) (limit : ℕ) (stops stops' : A → Symbol → Bool) (before i : List Spot) → ((x : A) (s : Symbol) → stops' x s ≡ true → stops x s ≡ true)
-    → (y : Result (A × List Spot) Fault) → Right of limit stops before i y → Right of limit stops' before i y
-Right-stops of limit stops stops' before i less (Ok z) r = record {
-  more = r.more;
-  depth = r.depth;
-  whole = r.whole;
-  spelled = r.spelled;
-  within = r.within;
-  ends = r.ends;
-  only = λ x c v s t sp st e h. r.only x c v s t sp (less x (ahead s) st) e h;
-}
-Right-stops of limit stops stops' before i less (Err f) r = record {
-  more = r.more;
-  rest = r.rest;
-  whole = r.whole;
-  place = r.place;
-  ends = r.ends;
-  dead = λ x c v s t sp st e h. r.dead x c v s t sp (less x (ahead s) st) e h;
-  front = r.front;
-}

@@ -4,7 +4,7 @@ use Rattle.std.proofs.lemmas.List.{append_assoc, append-nil}
 use Rattle.std.specs.Prelude.{Result, Ok, Err, if◌then◌else◌}
 use Rattle.c_reader.specs.declared.symbol.Symbol.{Symbol}
 use Rattle.c_reader.specs.Parts.{Part}
-use Rattle.c_reader.specs.ReadStatements.{many}
+use Rattle.c_reader.specs.Lists.{many}
 use Rattle.c_reader.specs.Spelling.{Spells, Front}
 use Rattle.c_reader.specs.Spelling as spelling
 use Rattle.c_reader.specs.Spots.{Spot}
@@ -37,6 +37,19 @@ module _ {A : Type 0} (goes : Symbol → Bool) (item : Parser A) where
       step again true = after again (item i)
       step again false = ap (λ (ys : List A). Ok (ys, i)) (sym (append-nil xs))
 
+abbrev pub front_of : {A : Type 0} → A × List A → List A
+front_of x = x.0 ∷ x.1
+
+-- one, and what follows it
+pub one_and_many : {A : Type 0} (goes : Symbol → Bool) (item : Parser A) (fuel : List Spot → ℕ) (y : Result (A × List Spot) Fault)
+    → (y >>= (λ x. many goes item (fuel x.1) (x.0 ∷ []) x.1)) ≡ onward front_of (y >>= (λ x. onward (λ (ys : List A). let z : A × List A = (x.0, ys) in z) (many goes item (fuel x.1) [] x.1)))
+one_and_many {A} goes item fuel (Err f) = refl
+one_and_many {A} goes item fuel (Ok x) = many-more goes item (fuel x.1) (x.0 ∷ []) x.1 ∙ joined (many goes item (fuel x.1) [] x.1)
+  where
+    joined : (m : Result (List A × List Spot) Fault) → onward (λ (ys : List A). (x.0 ∷ []) ++ ys) m ≡ onward front_of (onward (λ (ys : List A). let z : A × List A = (x.0, ys) in z) m)
+    joined (Ok y) = refl
+    joined (Err f) = refl
+
 -- ---- they are read rightly
 
 abbrev pair : {A B : Type 0} → A → B → A × B
@@ -51,7 +64,7 @@ module _ {A : Type 0} (of : A → List Part) (parts : List A → List Part) (non
     (begin : (x : A) (c : ℕ) (v s : List Spot) → Spells (of x) c v → goes (ahead (v ++ s)) ≡ true)
     (filled : (x : A) (c : ℕ) → Spells (of x) c [] → ⊥)
     (follows : Follows stops parts (stops_many ends))
-    (item : Parser A) (right : (i : List Spot) → Ends i → Right of limit stops [] i (item i)) where
+    (item : Parser A) (right : (i : List Spot) → Ends i → goes (ahead i) ≡ true → Right of limit stops [] i (item i)) where
   no_parts : (c : ℕ) (v : List Spot) → Spells (parts []) c v → v ≡ []
   no_parts c v sp = (from_nothing (subst (λ (ps : List Part). Spells ps c v) none sp)).tokens
 
@@ -93,17 +106,18 @@ module _ {A : Type 0} (of : A → List Part) (parts : List A → List Part) (non
       step [] e sp = absurd (filled x r.depth sp)
       step (y ∷ ys) e sp = let k : length i ≡ suc (length (ys ++ j)) = ap length e in omega (arith, k, length-append ys j)
 
-  many_right_from : (f : ℕ) (i : List Spot) → Ends i → length i < f → Right parts limit (stops_many ends) [] i (many goes item f [] i)
+  pub many_right : (f : ℕ) (i : List Spot) → Ends i → length i ≤ f → Right parts limit (stops_many ends) [] i (many goes item f [] i)
   unfolding many
-  many_right_from zero i ends_i lt = absurd (omega arith)
-  many_right_from (suc f) i ends_i lt =
+  many_right zero [] ends_i lt = absurd ends_i
+  many_right zero (c ∷ cs) ends_i lt = absurd (omega arith)
+  many_right (suc f) i ends_i lt =
       Right-if parts limit (stops_many ends) [] i (goes (ahead i)) (item i >>= (λ x. many goes item f (x.0 ∷ []) x.1)) (Ok ([], i))
       (λ h. subst (λ (y : Result (List A × List Spot) Fault). Right parts limit (stops_many ends) [] i y) (same (item i))
       (Right-seen (both_parts of parts) parts limit limit (both_stops (stops_many ends)) (stops_many ends) [] i (λ (z : A × List A). z.0 ∷ z.1) (cons_seen i h)
-      (item i >>= (λ x. onward (pair x.0) (many goes item f [] x.1))) (one (λ j ends_j le. many_right_from f j ends_j le) (item i) (right i ends_i))))
+      (item i >>= (λ x. onward (pair x.0) (many goes item f [] x.1))) (one (λ j ends_j le. many_right f j ends_j le) (item i) (right i ends_i h))))
       (λ h. over i ends_i h)
     where
-      one : ((j : List Spot) → Ends j → length j < f → Right parts limit (stops_many ends) [] j (many goes item f [] j)) → (y : Result (A × List Spot) Fault) → Right of limit stops [] i y → Right (both_parts of parts) limit (both_stops (stops_many ends)) [] i (y >>= (λ x. onward (pair x.0) (many goes item f [] x.1)))
+      one : ((j : List Spot) → Ends j → length j ≤ f → Right parts limit (stops_many ends) [] j (many goes item f [] j)) → (y : Result (A × List Spot) Fault) → Right of limit stops [] i y → Right (both_parts of parts) limit (both_stops (stops_many ends)) [] i (y >>= (λ x. onward (pair x.0) (many goes item f [] x.1)))
       one again (Err e) r = refused_first of parts limit stops (stops_many ends) follows [] [] i e r
       one again (Ok x) r =
           let lt2 = shorter i x.0 x.1 r in
@@ -116,6 +130,3 @@ module _ {A : Type 0} (of : A → List Part) (parts : List A → List Part) (non
           joined : (y : Result (List A × List Spot) Fault) → onward (λ (z : A × List A). z.0 ∷ z.1) (onward (pair x.0) y) ≡ onward (λ (ys : List A). x.0 ∷ ys) y
           joined (Err e) = refl
           joined (Ok y) = refl
-
-  pub many_right : (i : List Spot) → Ends i → Right parts limit (stops_many ends) [] i (many goes item (suc (length i)) [] i)
-  many_right i ends_i = many_right_from (suc (length i)) i ends_i (omega arith)

@@ -13,7 +13,7 @@ use Rattle.c_reader.specs.Spelling as spelling
 use Rattle.c_reader.specs.Spots.{Spot}
 use Rattle.c_reader.specs.Stream.{ahead, rest, Parser}
 use Rattle.c_reader.specs.Symbols.{same_symbol}
-use Rattle.c_reader.proofs.Folds.{Spells-fold, Front-fold}
+use Rattle.c_reader.proofs.Inlined.{fold_spelled, fold_front}
 use Rattle.c_reader.proofs.Right.{first, Ends, Stops, Read, Right, always}
 use Rattle.c_reader.proofs.Sequences.{FromNode, from_token, from_node, from_nothing, join}
 use Rattle.c_reader.proofs.Steps.{Seen, Right-seen}
@@ -108,10 +108,10 @@ module _ {A X : Type 0} (n : X → Node) (of : A → List Part) (x0 : X) (some :
   some_seen i h = record { forth = forth; front = front; back = back }
     where
       forth : (a : A) (c : ℕ) (u : List Spot) → Spells (of a ++ word mark ∷ []) c u → (d : ℕ) × Spells (node (n (some a)) ∷ word mark ∷ []) d u × (c ≤ limit → d ≤ limit)
-      forth a c u sp = (c, Spells-fold (rule1 a) (word mark ∷ []) c u sp, λ le. le)
+      forth a c u sp = (c, fold_spelled (rule1 a) sp, λ le. le)
 
       front : (a : A) (c : ℕ) (u : List Spot) → Front (of a ++ word mark ∷ []) c u → (d : ℕ) × Front (node (n (some a)) ∷ word mark ∷ []) d u × (limit < c → limit < d)
-      front a c u f = (c, Front-fold (rule1 a) (word mark ∷ []) c u f, λ lt. lt)
+      front a c u f = (c, fold_front (rule1 a) f, λ lt. lt)
 
       back : (x : X) (d : ℕ) (v s r : List Spot) → Spells (node (n x) ∷ word mark ∷ []) d v → Stops (always {A = X}) x s → v ++ s ≡ r → first r ≡ first i
           → (a : A) × (c : ℕ) × (x ≡ some a) × Spells (of a ++ word mark ∷ []) c v × Stops (always {A = A}) a s × (limit < c → limit < d)
@@ -132,4 +132,4 @@ module _ {A X : Type 0} (n : X → Node) (of : A → List Part) (x0 : X) (some :
       Right-if (λ (x : X). node (n x) ∷ word mark ∷ []) limit (always {A = X}) [] i (same_symbol (ahead i) mark) (Ok (x0, rest i)) (onward some (closed p mark i))
       (λ h. read_none i ends h)
       (λ h. Right-seen (λ (a : A). of a ++ word mark ∷ []) (λ (x : X). node (n x) ∷ word mark ∷ []) limit limit (always {A = A}) (always {A = X}) [] i some (some_seen i h) (closed p mark i)
-      (closed_right of limit stops mark more any p may [] i (right i ends)))
+      (closed_right of limit stops mark more any p may i (right i ends)))

@@ -8,8 +8,8 @@ use Rattle.c_lexer.specs.declared.token.TokenKind.{TokenKind}
 use Rattle.c_lexer.specs.declared.token.TokenKind.TheVariants as kind
 use Rattle.c_reader.specs.declared.symbol.Symbol.{Symbol}
 use Rattle.c_reader.specs.declared.symbol.Symbol.TheVariants as symbol
-use Rattle.c_reader.specs.Spots.{Spot, bytes_of, spot_of, spots_from, symbol_of, symbol_written, words, marks}
-use Rattle.c_reader.specs.Stream.{ahead, here}
+use Rattle.c_reader.specs.Spots.{Spot, bytes_of, spot_of, spots_from, symbol_of, symbol_written, words, marks, here}
+use Rattle.c_reader.specs.Stream.{ahead}
 use Rattle.c_reader.specs.Symbols.{same_symbol}
 use Rattle.c_reader.proofs.Right.{first, Ends}
 use Rattle.c_reader.proofs.SymbolNumbers.{other-is}

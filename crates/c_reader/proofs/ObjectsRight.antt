@@ -1,5 +1,5 @@
 -- Reading declarations of objects.
-use Rattle.std.proofs.Common.{◌≡◌, ℕ, true, List, [], ◌∷◌, ◌++◌, length, refl, ap, subst, ◌∙◌, sym}
+use Rattle.std.proofs.Common.{suc, ◌≡◌, ℕ, true, List, [], ◌∷◌, ◌++◌, length, refl, ap, subst, ◌∙◌, sym, arith}
 use Rattle.std.specs.Prelude.{Result, Ok, Err}
 use Rattle.sat_base.specs.declared.name.At.{At}
 use Rattle.sat_base.specs.declared.width.Width.{Width}
@@ -16,7 +16,8 @@ use Rattle.c_reader.specs.Grammar as rule
 use Rattle.c_reader.specs.Nodes.{Node}
 use Rattle.c_reader.specs.Nodes as a
 use Rattle.c_reader.specs.Parts.{Part, node, word, kept, separated}
-use Rattle.c_reader.specs.ReadDeclarations.{word_at, more_listed, specifiers_at, view_of, declarator_at, declarators_at, objects_of, objects_from_at, objects_at}
+use Rattle.c_reader.specs.Lists.{after, is_comma, more_listed}
+use Rattle.c_reader.specs.ReadDeclarations.{word_at, specifiers_at, view_of, declarator_at, declarators_at, objects_of, objects_from_at, objects_at}
 use Rattle.c_reader.specs.ReadExpressions.{type_at, expression_at, argument_at, index_by}
 use Rattle.c_reader.specs.Spelling.{Spells}
 use Rattle.c_reader.specs.Spots.{Spot}
@@ -27,7 +28,8 @@ use Rattle.c_reader.proofs.Declarators.{spec, declarator_right}
 use Rattle.c_reader.proofs.Dependent.{then_right, then_read, seen_by}
 use Rattle.c_reader.proofs.Endings.{fused, word_after, then_word}
 use Rattle.c_reader.proofs.Initialisers.{ends_start}
-use Rattle.c_reader.proofs.Listed.{ends_list, more_prepend, listed_right}
+use Rattle.c_reader.proofs.Listed.{ends_list, ends_one, listed_right}
+use Rattle.c_reader.proofs.Many.{many-more}
 use Rattle.c_reader.proofs.Right.{first, Ends, Stops, Right, always}
 use Rattle.c_reader.proofs.Rules.{Chosen, no_parts, early_seen}
 use Rattle.c_reader.proofs.Specifiers.{no_int, specifiers_node, specifiers_right}
@@ -44,7 +46,7 @@ abbrev pub decls_parts : Specifiers → Decls → List Part
 decls_parts s x = separated (a.declarator s.quals.is_static s.quals.is_const s.width) x.0 x.1 ++ word symbol.Semicolon ∷ []
 
 abbrev pub declared_from : ℕ → Specifiers → Result (Decl × List Spot) Fault → Result (Decls × List Spot) Fault
-declared_from n s y = word_after symbol.Semicolon (then_read {B = λ d. List Decl} y (λ d k. more_listed (length k) (declarator_at n s) [] k))
+declared_from n s y = word_after symbol.Semicolon (then_read {B = λ d. List Decl} y (λ d k. more_listed (declarator_at n s) [] k))
 
 abbrev pub declared_as : Specifiers → Decls → Objects
 declared_as s x = objects_of s.quals.at (x.0 ∷ x.1)
@@ -52,7 +54,7 @@ declared_as s x = objects_of s.quals.at (x.0 ∷ x.1)
 pub objects_from_is : (n : ℕ) (s : Specifiers) (y : Result (Decl × List Spot) Fault) → (y >>= (λ d. objects_from_at n s d.0 d.1)) ≡ seen_by (declared_as s) (declared_from n s y)
 unfolding objects_from_at declarators_at
 objects_from_is n s (Err f) = refl
-objects_from_is n s (Ok d) = ap finished (more_prepend (length d.1) (declarator_at n s) (d.0 ∷ []) d.1) ∙ step (more_listed (length d.1) (declarator_at n s) [] d.1)
+objects_from_is n s (Ok d) = ap finished (many-more is_comma (after symbol.Comma (declarator_at n s)) (suc (length d.1)) (d.0 ∷ []) d.1) ∙ step (more_listed (declarator_at n s) [] d.1)
   where
     finished : Result (List Decl × List Spot) Fault → Result (Objects × List Spot) Fault
     finished m = seen_by (λ (x : List Decl × Unit {0}). objects_of s.quals.at x.0) (then_read {B = λ l. Unit {0}} m (λ l. word_at symbol.Semicolon))
@@ -79,8 +81,8 @@ module _ (n : ℕ)
   pub declared_right : (s : Specifiers) (i : List Spot) → Ends i → Right (decls_parts s) n always [] i (declared_from n s (declarator_at n s i))
   declared_right s i ends =
       then_word symbol.Semicolon (λ g. cc) (λ (x : Decls). separated (a.declarator s.quals.is_static s.quals.is_const s.width) x.0 x.1) n (λ x t. ends_list ends_start t) (λ x. refl) i
-      (then_read {B = λ d. List Decl} (declarator_at n s i) (λ d k. more_listed (length k) (declarator_at n s) [] k))
-      (listed_right (a.declarator s.quals.is_static s.quals.is_const s.width) n ends_start refl (declarator_at n s) (declarator_right n expression_right argument_right index_right s) i ends)
+      (then_read {B = λ d. List Decl} (declarator_at n s i) (λ d k. more_listed (declarator_at n s) [] k))
+      (listed_right (a.declarator s.quals.is_static s.quals.is_const s.width) n (λ d t. ends_start t) (ends_list ends_start) refl (λ d. refl) (λ d t e. ends_one ends_start t e) (declarator_at n s) (declarator_right n expression_right argument_right index_right s) (λ j. suc (length j)) (λ j. omega arith) i ends)
 
   module _ (type_right : (i : List Spot) → Ends i → Right (λ (x : At × Width). node (a.type_ x.0 x.1) ∷ []) n (λ x s. no_int s) [] i (type_at i)) where
     abbrev whole_parts : Specifiers × Decls → List Part

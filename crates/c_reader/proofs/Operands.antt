@@ -19,13 +19,15 @@ use Rattle.c_reader.specs.Nodes as a
 use Rattle.c_reader.specs.Parts.{Token, Kept, Called, Part, token, node, word, kept, Is}
 use Rattle.c_reader.specs.ReadExpressions.{Readers, unmarked, reading, type_at, arguments_by, bracketed_by, named_by, operand_by, unary_by, next_unary}
 use Rattle.c_reader.specs.Spelling.{Spells}
-use Rattle.c_reader.specs.Spots.{Spot}
-use Rattle.c_reader.specs.Stream.{ahead, here, rest, Fault, Parser, ◌>>=◌, both, mapped, take_at, name_at, number_at}
+use Rattle.c_reader.specs.Spots.{Spot, here}
+use Rattle.c_reader.specs.Stream.{ahead, rest, Fault, Parser, ◌>>=◌, both, mapped, take_at, name_at, number_at}
 use Rattle.c_reader.specs.Symbols.{same_symbol, unary_mark, width_of, begins_type, begins_expression}
+use Rattle.c_reader.proofs.Endings.{seen_twice}
+use Rattle.c_reader.proofs.Dependent.{seen_by}
 use Rattle.c_reader.proofs.Arguments.{of_call, call_of, call_right}
 use Rattle.c_reader.proofs.Indices.{some_expression, of_expression, of_named}
 use Rattle.c_reader.proofs.Begins.{spells_starts}
-use Rattle.c_reader.proofs.Looser.{done, same, loose, tighten, Seen-looser, seen_by, seen_twice}
+use Rattle.c_reader.proofs.Looser.{done, same, loose, tighten, Seen-looser}
 use Rattle.c_reader.proofs.Lower.{RightReaders}
 use Rattle.c_reader.proofs.OperandRules.{of_marked, marked, Casting, of_cast, cast_of, of_brackets, bracketed, of_number, numbered, of_overflow, overflow_of, calling, ByRule, chosen, ByLead, marked_lead, by_lead, after_token, call_second, place_second}
 use Rattle.c_reader.proofs.Optional.{Read-known}

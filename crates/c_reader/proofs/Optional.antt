@@ -8,7 +8,7 @@ use Rattle.c_reader.specs.Spelling as spelling
 use Rattle.c_reader.specs.Spots.{Spot}
 use Rattle.c_reader.specs.Stream.{ahead, Fault}
 use Rattle.c_reader.specs.Symbols.{same_symbol}
-use Rattle.c_reader.proofs.Looser.{seen_by}
+use Rattle.c_reader.proofs.Dependent.{seen_by}
 use Rattle.c_reader.proofs.Right.{first, Ends, Stops, Read, Right, always}
 use Rattle.c_reader.proofs.Sequences.{from_token, from_nothing}
 use Rattle.c_reader.proofs.Steps.{Seen, Right-seen}

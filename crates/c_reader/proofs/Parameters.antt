@@ -19,14 +19,14 @@ use Rattle.c_reader.specs.ReadDeclarations.{passed, dimension_at}
 use Rattle.c_reader.specs.ReadExpressions.{type_at, expression_at}
 use Rattle.c_reader.specs.ReadSource.{maybe_name_at, param_dimension_at, param_of}
 use Rattle.c_reader.specs.Spelling.{Spells, whole}
-use Rattle.c_reader.specs.Spots.{Spot}
-use Rattle.c_reader.specs.Stream.{ahead, here, rest, Fault, both, name_at}
+use Rattle.c_reader.specs.Spots.{Spot, here}
+use Rattle.c_reader.specs.Stream.{ahead, rest, Fault, both, name_at}
 use Rattle.c_reader.specs.Symbols.{same_symbol, begins_type}
 use Rattle.c_reader.proofs.Alternatives.{by_seen, alternative, nothing_right, no_node, ends_after, ahead_is, follows_token, follows_nothing, after_word}
 use Rattle.c_reader.proofs.Begins.{dimension_begins, spells_starts, wrong}
 use Rattle.c_reader.proofs.Dependent.{then_right, then_read, seen_by, read_as}
 use Rattle.c_reader.proofs.Dimensions.{dimension_right}
-use Rattle.c_reader.proofs.Endings.{stricter, early_token, rule_ahead, rule_nothing}
+use Rattle.c_reader.proofs.Endings.{stricter, nothing_ahead, early_token, rule_ahead, rule_nothing}
 use Rattle.c_reader.proofs.Right.{first, Ends, Right, always}
 use Rattle.c_reader.proofs.Rules.{Chosen, no_parts, early_seen}
 use Rattle.c_reader.proofs.Sequences.{from_nothing}
@@ -162,9 +162,7 @@ maybe_name_right n i ends =
 -- what is ahead of a name, or of what follows none
 after_name : {x : Option Named} {ps : List Part} {c : ℕ} {w : List Spot} (P : Symbol → Bool) (s : List Spot) → P symbol.Name ≡ true → ((d : ℕ) (v : List Spot) → Spells ps d v → P (ahead (v ++ s)) ≡ true)
     → Spells (node (a.maybe_name x) ∷ ps) c w → P (ahead (w ++ s)) ≡ true
-after_name {w = w} P s at_name holds (whole {d = d} {u1 = u1} {u2 = u2} {v = v} rule.no_name early late rest e _) =
-    let nothing : (u1 ++ u2) ++ v ≡ v = ap (λ (x : List Spot). (x ++ u2) ++ v) (from_nothing early).tokens ∙ ap (λ (x : List Spot). x ++ v) (from_nothing late).tokens in
-    ap (λ (x : List Spot). P (ahead (x ++ s))) (e ∙ nothing) ∙ holds d v rest
+after_name {w = w} P s at_name holds (whole {d = d} {u1 = u1} {u2 = u2} {v = v} rule.no_name early late rest e _) = ap P (nothing_ahead u1 u2 v w s e early late) ∙ holds d v rest
 after_name {w = w} P s at_name holds (whole {u1 = u1} {u2 = u2} {v = v} rule.a_name early late rest e _) = ap P (early_token u1 u2 v w s e early) ∙ at_name
 
 -- ---- what follows the type

@@ -1,5 +1,5 @@
 -- Reading lists of parameters.
-use Rattle.std.proofs.Common.{◌≡◌, ◌≢◌, ℕ, Bool, true, false, List, [], ◌∷◌, ◌++◌, Option, Some, None, refl, ap, subst, ◌∙◌, sym}
+use Rattle.std.proofs.Common.{◌≡◌, ◌≢◌, ℕ, Bool, true, false, List, [], ◌∷◌, ◌++◌, Option, Some, None, refl, ap, subst, ◌∙◌, sym, suc, length, arith}
 use Rattle.std.proofs.lemmas.List.{append_assoc}
 use Rattle.std.specs.Prelude.{Result, Ok, Err, if◌then◌else◌}
 use Rattle.sat_base.specs.declared.name.At.{At}
@@ -18,13 +18,14 @@ use Rattle.c_reader.specs.ReadDeclarations.{passed}
 use Rattle.c_reader.specs.ReadExpressions.{type_at, type_by, expression_at}
 use Rattle.c_reader.specs.ReadSource.{maybe_name_at, param_dimension_at, param_of, param_at, listed_params_at, params_at}
 use Rattle.c_reader.specs.Spelling.{Spells}
-use Rattle.c_reader.specs.Spots.{Spot}
-use Rattle.c_reader.specs.Stream.{ahead, here, rest, Fault, ◌>>=◌, both}
+use Rattle.c_reader.specs.Spots.{Spot, here}
+use Rattle.c_reader.specs.Stream.{ahead, rest, Fault, ◌>>=◌, both}
 use Rattle.c_reader.specs.Symbols.{same_symbol, width_of}
 use Rattle.c_reader.proofs.Alternatives.{by_seen, nothing_right, no_node, ends_after, after_word}
 use Rattle.c_reader.proofs.Dependent.{then_right, then_read, seen_by, read_as}
 use Rattle.c_reader.proofs.Endings.{rule_ahead, rule_nothing}
-use Rattle.c_reader.proofs.Listed.{ends_list, front_of, listed_as}
+use Rattle.c_reader.proofs.Listed.{ends_list, ends_one, listed_as}
+use Rattle.c_reader.proofs.Many.{front_of}
 use Rattle.c_reader.proofs.Begins.{begins_param, spells_starts, wrong}
 use Rattle.c_reader.proofs.Parameters.{ends_param, ParamType, ParamTail, a_view, no_view, tail_parts, tail_ahead, type_no_int, with_tail, param_typed, param_type_parts, read_param_type, no_view_of, read_tail, param_type_right, tail_right}
 use Rattle.c_reader.proofs.Right.{first, Ends, Stops, Right, always}
@@ -175,7 +176,7 @@ module _ (n : ℕ)
   listed : (i : List Spot) → Ends i → ahead i ≢ symbol.CloseParen → ahead i ≢ symbol.Void → Right params_node n stops_params [] i (listed_params_at n i)
   unfolding listed_params_at
   listed i ends ne nv =
-      listed_as a.param n ends_param refl (param_at n) param_right {of_y = params_node} {limit' = n} {stops_y = stops_params} {i = i}
+      listed_as a.param n (λ x t. ends_param t) (ends_list ends_param) refl (λ x. refl) (λ x t e. ends_one ends_param t e) (param_at n) param_right (λ j. suc (length j)) (λ j. omega arith) {of_y = params_node} {limit' = n} {stops_y = stops_params} {i = i}
       (early_seen a.params one_parts n (λ x s. ends_list ends_param s) stops_params [] i front_of (λ x. rule.params) which) ends
     where
       which : (x : List Param) (early late : List Part) (c1 c2 : ℕ) (u1 u2 s r : List Spot) → Rule (a.params x) early late → Spells early c1 u1 → Spells late c2 u2 → Stops stops_params x s

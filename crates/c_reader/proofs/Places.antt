@@ -18,10 +18,11 @@ use Rattle.c_reader.specs.Spelling.{Spells}
 use Rattle.c_reader.specs.Spots.{Spot}
 use Rattle.c_reader.specs.Stream.{ahead, Fault, Parser, ◌>>=◌, both, mapped, take_at, name_at}
 use Rattle.c_reader.specs.Symbols.{same_symbol}
+use Rattle.c_reader.proofs.Endings.{seen_twice, stricter}
+use Rattle.c_reader.proofs.Dependent.{seen_by}
 use Rattle.c_reader.proofs.Indices.{ReadsExpressions, of_named, tail_at, tail_right, of_tail, stops_tail, of_called, of_place_parts, place_of_pair, place_rule, place_choice, indices_is}
 use Rattle.c_reader.proofs.Begins.{spells_starts}
-use Rattle.c_reader.proofs.Looser.{seen_by, seen_twice}
-use Rattle.c_reader.proofs.Lower.{RightReaders, Right-stops}
+use Rattle.c_reader.proofs.Lower.{RightReaders}
 use Rattle.c_reader.proofs.Right.{first, Ends, Stops, Right, always}
 use Rattle.c_reader.proofs.Rules.{Chosen, Choice, no_parts, early_seen, late_seen, token-ahead}
 use Rattle.c_reader.proofs.Sequences.{from_nothing}
@@ -100,5 +101,5 @@ place_of_named n before i y choice right = subst (λ (z : Result (Place × List 
 pub place_right : (n : ℕ) → RightReaders n (readers n) → (i : List Spot) → Ends i → Right (λ (p : Place). node (a.place p) ∷ []) n stops_place [] i (place_at n i)
 unfolding place_at
 place_right n right i ends = Right-if of_place n stops_place [] i (same_symbol (ahead i) symbol.Star) ((readers n).indirection i) ((readers n).named i)
-    (λ e. Right-stops of_place n always stops_place [] i (λ p s st. refl) ((readers n).indirection i) (right.indirection i ends (same-is (ahead i) symbol.Star e)))
+    (λ e. stricter of_place n always stops_place [] i (λ p s st. refl) ((readers n).indirection i) (right.indirection i ends (same-is (ahead i) symbol.Star e)))
     (λ e. place_of_named n [] i ((readers n).named i) (λ p early late c1 c2 u1 u2 s r rule sp1 sp2 st e2 h. named_choice p u1 u2 s r i rule sp1 sp2 (other-is (ahead i) symbol.Star e) st e2 h) (right.named i ends))

@@ -20,9 +20,10 @@ use Rattle.c_reader.specs.ReadStatements.{block_with}
 use Rattle.c_reader.specs.Spelling as parts
 use Rattle.c_reader.specs.Spots.{Spot, spots_of, end_of}
 use Rattle.c_reader.specs.Stream.{ahead, Fault}
+use Rattle.c_reader.proofs.Dependent.{seen_by}
 use Rattle.c_reader.proofs.Depths.{program_depth}
-use Rattle.c_reader.proofs.ItemsRight.{front_of, read_items, items_are}
-use Rattle.c_reader.proofs.Looser.{seen_by}
+use Rattle.c_reader.proofs.ItemsRight.{read_items, items_are}
+use Rattle.c_reader.proofs.Many.{front_of}
 use Rattle.c_reader.proofs.Numbers.{ends-last}
 use Rattle.c_reader.proofs.SourceRight.{source_right}
 use Rattle.c_reader.proofs.Whole.{ItemsRight, all_read, syntax_fault, too_deep, same_items, some_of}

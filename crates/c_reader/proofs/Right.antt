@@ -6,8 +6,8 @@ use Rattle.c_reader.specs.declared.symbol.Symbol.{Symbol}
 use Rattle.c_reader.specs.declared.symbol.Symbol.TheVariants.{End}
 use Rattle.c_reader.specs.Parts.{Part}
 use Rattle.c_reader.specs.Spelling.{Spells, Front}
-use Rattle.c_reader.specs.Spots.{Spot}
-use Rattle.c_reader.specs.Stream.{ahead, here, Fault}
+use Rattle.c_reader.specs.Spots.{Spot, here}
+use Rattle.c_reader.specs.Stream.{ahead, Fault}
 
 -- the first token, if there is one
 abbrev pub first : List Spot → Option Spot

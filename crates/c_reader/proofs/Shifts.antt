@@ -10,13 +10,6 @@ use Rattle.c_reader.specs.Stream.{Fault}
 use Rattle.c_reader.proofs.Right.{first, Stops, Read, HasFront, Right}
 
 module _ {A : Type 0} (of : A → List Part) (limit : ℕ) (stops : A → Symbol → Bool) (before : List Spot) where
-  -- all of it was gone over before
-  pub shift : (i : List Spot) (a : A) (j : List Spot) (r : Read of limit stops before i a j) → Read of limit stops (before ++ r.more) j a j
-  shift i a j r =
-      let only = λ (a' : A) (c : ℕ) (v s t : List Spot) (sp : Spells (of a') c v) (st : Stops stops a' s) (e : v ++ s ≡ (before ++ r.more) ++ t) (h : first t ≡ first j).
-      r.only a' c v s t sp st (e ∙ append_assoc before r.more t) h in
-      record { more = []; depth = r.depth; whole = refl; spelled = subst (λ (w : List Spot). Spells (of a) r.depth w) (sym (append-nil (before ++ r.more))) r.spelled; within = r.within; ends = r.ends; only = only }
-
   -- what is right after more tokens is right from before them on
   pub unshift : (m i j : List Spot) → i ≡ m ++ j → (y : Result (A × List Spot) Fault) → Right of limit stops (before ++ m) j y → Right of limit stops before i y
   unshift m i j whole (Ok y) r =

@@ -27,9 +27,6 @@ any_expression = record { at = nowhere; brackets = 0; kind = kind.Int (pos 0) }
 pub any_place : Place
 any_place = place.Plain no_name
 
-pub any_arguments : List Arg
-any_arguments = []
-
 pub any_simple : Simple
 any_simple = simple.Call (record { name = no_name; args = [] })
 

@@ -24,11 +24,11 @@ use Rattle.c_reader.specs.ReadExpressions.{expression_at, indices_at, arguments_
 use Rattle.c_reader.specs.ReadStatements.{mark_by, assignment_at, after_place, named_simple_by}
 use Rattle.c_reader.specs.Spelling.{counted, Spells, Front}
 use Rattle.c_reader.specs.Spelling as spelling
-use Rattle.c_reader.specs.Spots.{Spot}
-use Rattle.c_reader.specs.Stream.{ahead, here, rest, Fault, Parser, ◌>>=◌, both}
+use Rattle.c_reader.specs.Spots.{Spot, here}
+use Rattle.c_reader.specs.Stream.{ahead, rest, Fault, Parser, ◌>>=◌, both}
 use Rattle.c_reader.specs.Symbols.{same_symbol, assign_mark, step_of}
 use Rattle.c_reader.proofs.Begins.{starts, spells_starts}
-use Rattle.c_reader.proofs.Folds.{Spells-fold, Front-fold}
+use Rattle.c_reader.proofs.Inlined.{fold_spelled, fold_front}
 use Rattle.c_reader.proofs.Right.{first, Ends, Stops, Read, Right, always}
 use Rattle.c_reader.proofs.Rules.{Choice, no_parts, early_seen, token-ahead}
 use Rattle.c_reader.proofs.Sequences.{from_token, from_node, from_nothing, join}
@@ -293,11 +293,11 @@ module _ (n : ℕ) (expression_right : (i : List Spot) → Ends i → Right (λ 
       where
         forth : (p : Place) (b : Tail) (c : ℕ) (u : List Spot) → Spells (node (a.named p) ∷ of_tail b) c u → (d : ℕ) × Spells (of_placed p b) d u × (c ≤ n → d ≤ n)
         forth p (inl b) c u sp = (c, sp, λ le. le)
-        forth p (inr b) c u sp = (c, Spells-fold rule.place_named (of_value b) c u sp, λ le. le)
+        forth p (inr b) c u sp = (c, fold_spelled rule.place_named sp, λ le. le)
 
         front : (p : Place) (b : Tail) (c : ℕ) (u : List Spot) → Front (node (a.named p) ∷ of_tail b) c u → (d : ℕ) × Front (of_placed p b) d u × (n < c → n < d)
         front p (inl b) c u f = (c, f, λ lt. lt)
-        front p (inr b) c u f = (c, Front-fold rule.place_named (of_value b) c u f, λ lt. lt)
+        front p (inr b) c u f = (c, fold_front rule.place_named f, λ lt. lt)
 
         back : (p : Place) (b : Tail) (d : ℕ) (v s r : List Spot) → Spells (of_placed p b) d v → Stops stops_placed (p, b) s → v ++ s ≡ t ∷ r → first r ≡ first i
             → (y : Place × Tail) × (c : ℕ) × ((p, b) ≡ y) × Spells (node (a.named y.0) ∷ of_tail y.1) c v × Stops (both_stops {A = Place} stops_tail) y s × (n < c → n < d)

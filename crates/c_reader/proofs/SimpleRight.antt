@@ -18,7 +18,8 @@ use Rattle.c_reader.specs.Marks.{step_symbol}
 use Rattle.c_reader.specs.Nodes as a
 use Rattle.c_reader.specs.Parts.{Called, Part, node, Is, word, kept}
 use Rattle.c_reader.specs.ReadExpressions.{expression_at, indices_at, indirection_at, named_at, arguments_at, place_at}
-use Rattle.c_reader.specs.ReadStatements.{after, mark_by, assignment_at, named_simple_by, named_simple_at, indirect_simple_at, set_overflow_at, step_before_at, simple_by, simple_at}
+use Rattle.c_reader.specs.Lists.{after}
+use Rattle.c_reader.specs.ReadStatements.{mark_by, assignment_at, named_simple_by, named_simple_at, indirect_simple_at, set_overflow_at, step_before_at, simple_by, simple_at}
 use Rattle.c_reader.specs.Spelling.{Spells}
 use Rattle.c_reader.specs.Spots.{Spot}
 use Rattle.c_reader.specs.Stream.{ahead, Fault, Parser, ◌>>=◌, both, take_at}

@@ -13,10 +13,10 @@ use Rattle.c_reader.specs.ReadDeclarations.{objects_at}
 use Rattle.c_reader.specs.ReadExpressions.{readers, expression_at, type_at, index_by}
 use Rattle.c_reader.specs.ReadStatements.{block_with}
 use Rattle.c_reader.specs.Spots.{Spot}
+use Rattle.c_reader.proofs.Endings.{stricter}
 use Rattle.c_reader.proofs.Arguments.{arguments_right}
 use Rattle.c_reader.proofs.Indices.{index_right}
 use Rattle.c_reader.proofs.ItemsRight.{read_items, items_right}
-use Rattle.c_reader.proofs.Lower.{Right-stops}
 use Rattle.c_reader.proofs.ObjectsRight.{objects_right}
 use Rattle.c_reader.proofs.Places.{place_right}
 use Rattle.c_reader.proofs.ReadersRight.{readers_right, expression_right, arg_right}
@@ -31,7 +31,7 @@ looser_type x symbol.IntWord e = e
 looser_type x _ e = refl
 
 types : (n : ℕ) (i : List Spot) → Ends i → Right (λ (x : At × Width). node (a.type_ x.0 x.1) ∷ []) n (λ x s. no_int s) [] i (type_at i)
-types n i ends = Right-stops (λ (x : At × Width). node (a.type_ x.0 x.1) ∷ []) n stops_type (λ x s. no_int s) [] i looser_type (type_at i) (type_right n i ends)
+types n i ends = stricter (λ (x : At × Width). node (a.type_ x.0 x.1) ∷ []) n stops_type (λ x s. no_int s) [] i looser_type (type_at i) (type_right n i ends)
 
 indexes : (n : ℕ) (i : List Spot) → Ends i → Right (λ (x : At × Expr). kept symbol.OpenBracket x.0 ∷ node (a.expr x.1) ∷ word symbol.CloseBracket ∷ []) n always [] i (index_by (expression_at n) i)
 indexes n = index_right n (expression_at n) (expression_right n)

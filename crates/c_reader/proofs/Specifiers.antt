@@ -16,8 +16,8 @@ use Rattle.c_reader.specs.Parts.{Part, Kept, node, word, kept}
 use Rattle.c_reader.specs.ReadDeclarations.{passed, qualifiers_at, specifiers_at}
 use Rattle.c_reader.specs.ReadExpressions.{type_at, type_by}
 use Rattle.c_reader.specs.Spelling.{Spells}
-use Rattle.c_reader.specs.Spots.{Spot}
-use Rattle.c_reader.specs.Stream.{ahead, here, rest, Fault}
+use Rattle.c_reader.specs.Spots.{Spot, here}
+use Rattle.c_reader.specs.Stream.{ahead, rest, Fault}
 use Rattle.c_reader.specs.Symbols.{same_symbol, width_of, begins_type}
 use Rattle.c_reader.proofs.Alternatives.{by_seen, alternative, nothing_right, ends_after, ahead_is, token_then, after_word}
 use Rattle.c_reader.proofs.Begins.{spells_starts}

@@ -3,16 +3,16 @@ use Rattle.std.proofs.Common.{◌≡◌, ◌≢◌, ℕ, zero, suc, ◌<◌, ◌
 use Rattle.std.specs.Prelude.{Result, Ok, Err, IsErrAnd, if◌then◌else◌}
 use Rattle.sat_base.specs.declared.name.At.{At}
 use Rattle.c_tree.specs.declared.declaration.Objects.{Objects}
-use Rattle.c_tree.specs.declared.simple.Simple.{Simple}
 use Rattle.c_tree.specs.declared.statement.Stmt.{Stmt}
 use Rattle.c_reader.specs.declared.refusal.ReadRefusal.{ReadRefusal}
 use Rattle.c_reader.specs.declared.refusal.ReadRefusal.TheVariants as refusal
 use Rattle.c_reader.specs.declared.symbol.Symbol.{Symbol}
 use Rattle.c_reader.specs.declared.symbol.Symbol.TheVariants as symbol
 use Rattle.c_reader.specs.Gives.{Fails, Gives}
-use Rattle.c_reader.specs.ReadStatements.{after, many, is_comma, simple_at, more_simples_at, simples_at, simple_statement_at, next_statement, statement_with}
-use Rattle.c_reader.specs.Spots.{Spot}
-use Rattle.c_reader.specs.Stream.{ahead, here, rest, Fault, Parser, ◌>>=◌}
+use Rattle.c_reader.specs.Lists.{after, many, is_comma, more_listed, listed_at}
+use Rattle.c_reader.specs.ReadStatements.{simple_statement_at, next_statement, statement_with}
+use Rattle.c_reader.specs.Spots.{Spot, here}
+use Rattle.c_reader.specs.Stream.{ahead, rest, Fault, Parser, ◌>>=◌}
 use Rattle.c_reader.specs.Symbols.{same_symbol}
 
 -- the loop goes on as reading does, from what is collected and what is left
@@ -63,6 +63,9 @@ module _ {A : Type 0} (goes : Symbol → Bool) (item : Parser A) (start : Result
           let k : (item i >>= (λ z. many goes item f (xs ++ z.0 ∷ []) z.1)) ≡ many goes item f (xs ++ x ∷ []) j = ap (λ (y : Result (A × List Spot) Fault). y >>= (λ z. many goes item f (xs ++ z.0 ∷ []) z.1)) e in
           record { fuel = f; enough = omega arith; same = sym k ∙ sym (once f xs i le h) ∙ same }
 
+  pub goes_added : (xs : List A) (i : List Spot) (x : A) (j : List Spot) (ys : List A) → Goes goes item start xs i → goes (ahead i) ≡ true → item i ≡ Ok (x, j) → length j < length i → ys ≡ xs ++ x ∷ [] → Goes goes item start ys j
+  goes_added xs i x j ys g h e lt same = subst (λ (zs : List A). Goes goes item start zs j) (sym same) (goes_step xs i x j g h e lt)
+
   pub goes_over : (xs : List A) (i : List Spot) → Goes goes item start xs i → goes (ahead i) ≡ false → start ≡ Ok (xs, i)
   unfolding many
   goes_over xs i g h = step g.fuel g.same
@@ -102,27 +105,29 @@ pub shorter_tail : (i : List Spot) → length (rest i) ≤ length i
 shorter_tail [] = omega arith
 shorter_tail (x ∷ xs) = omega arith
 
--- ---- the loop over commas
+-- ---- lists with commas: k is what is left after the comma
 
-module _ (n : ℕ) (start : Result (List Simple × List Spot) Fault) where
-  pub simples_start : (i : List Spot) (x : Simple) (j : List Spot) (ys : List Simple) → simple_at n i ≡ Ok (x, j) → simples_at n i ≡ start → ys ≡ x ∷ [] → Goes is_comma (after symbol.Comma (simple_at n)) start ys j
-  unfolding simples_at more_simples_at
-  simples_start i x j ys e same is =
-      let k = ap (λ (y : Result (Simple × List Spot) Fault). y >>= (λ z. many is_comma (after symbol.Comma (simple_at n)) (suc (length z.1)) (z.0 ∷ []) z.1)) (sym e) ∙ same in
-      subst (λ (zs : List Simple). Goes is_comma (after symbol.Comma (simple_at n)) start zs j) (sym is) (goes_start is_comma (after symbol.Comma (simple_at n)) start (x ∷ []) j k)
+module _ {A : Type 0} (p : Parser A) (start : Result (List A × List Spot) Fault) where
+  pub listed_start : (i : List Spot) (x : A) (j : List Spot) (ys : List A) → p i ≡ Ok (x, j) → listed_at p i ≡ start → ys ≡ x ∷ [] → Goes is_comma (after symbol.Comma p) start ys j
+  listed_start i x j ys e same is =
+      let k = ap (λ (y : Result (A × List Spot) Fault). y >>= (λ z. more_listed p (z.0 ∷ []) z.1)) (sym e) ∙ same in
+      subst (λ (zs : List A). Goes is_comma (after symbol.Comma p) start zs j) (sym is) (goes_start is_comma (after symbol.Comma p) start (x ∷ []) j k)
 
-  pub simples_step : (xs : List Simple) (i i1 j : List Spot) (x : Simple) (ys : List Simple) → Goes is_comma (after symbol.Comma (simple_at n)) start xs i → is_comma (ahead i) ≡ true → i1 ≡ rest i
-      → simple_at n i1 ≡ Ok (x, j) → length j ≤ length i1 → ys ≡ xs ++ x ∷ [] → Goes is_comma (after symbol.Comma (simple_at n)) start ys j
-  simples_step xs i i1 j x ys g comma at e le is =
+  pub listed_step : (xs : List A) (i k : List Spot) (x : A) (j : List Spot) (ys : List A) → Goes is_comma (after symbol.Comma p) start xs i → is_comma (ahead i) ≡ true → k ≡ rest i
+      → p k ≡ Ok (x, j) → length j ≤ length k → ys ≡ xs ++ x ∷ [] → Goes is_comma (after symbol.Comma p) start ys j
+  listed_step xs i k x j ys g comma at e le is =
       let lt = shorter_rest i symbol.Comma comma refl in
-      let k : length i1 ≡ length (rest i) = ap length at in
-      let f : after symbol.Comma (simple_at n) i ≡ Ok (x, j) = after-taken symbol.Comma (simple_at n) i comma ∙ ap (simple_at n) (sym at) ∙ e in
-      subst (λ (zs : List Simple). Goes is_comma (after symbol.Comma (simple_at n)) start zs j) (sym is) (goes_step is_comma (after symbol.Comma (simple_at n)) start xs i x j g comma f (omega (arith, lt, k)))
+      let same : length k ≡ length (rest i) = ap length at in
+      let f : after symbol.Comma p i ≡ Ok (x, j) = after-taken symbol.Comma p i comma ∙ ap p (sym at) ∙ e in
+      subst (λ (zs : List A). Goes is_comma (after symbol.Comma p) start zs j) (sym is) (goes_step is_comma (after symbol.Comma p) start xs i x j g comma f (omega (arith, lt, same)))
 
-  pub simples_fail : (e : ReadRefusal) (xs : List Simple) (i i1 : List Spot) → Goes is_comma (after symbol.Comma (simple_at n)) start xs i → is_comma (ahead i) ≡ true → i1 ≡ rest i → Fails e (simple_at n i1) → Fails e start
-  simples_fail e xs i i1 g comma at bad =
-      let f : simple_at n i1 ≡ after symbol.Comma (simple_at n) i = ap (simple_at n) at ∙ sym (after-taken symbol.Comma (simple_at n) i comma) in
-      goes_fails is_comma (after symbol.Comma (simple_at n)) start e xs i g comma (subst (λ (y : Result (Simple × List Spot) Fault). Fails e y) f bad)
+  pub listed_fails : (e : ReadRefusal) (xs : List A) (i k : List Spot) → Goes is_comma (after symbol.Comma p) start xs i → is_comma (ahead i) ≡ true → k ≡ rest i → Fails e (p k) → Fails e start
+  listed_fails e xs i k g comma at bad =
+      let f : p k ≡ after symbol.Comma p i = ap p at ∙ sym (after-taken symbol.Comma p i comma) in
+      goes_fails is_comma (after symbol.Comma p) start e xs i g comma (subst (λ (y : Result (A × List Spot) Fault). Fails e y) f bad)
+
+  pub listed_ended : (xs : List A) (i k : List Spot) → Goes is_comma (after symbol.Comma p) start xs i → is_comma (ahead i) ≡ false → k ≡ i → start ≡ Ok (xs, k)
+  listed_ended xs i k g none same = goes_over is_comma (after symbol.Comma p) start xs i g none ∙ ap (λ (j : List Spot). Ok (xs, j)) (sym same)
 
 -- ---- a statement that begins with no word and no sign of its own
 

@@ -1,5 +1,5 @@
 -- What stands in the brackets of statements is read rightly.
-use Rattle.std.proofs.Common.{◌≡◌, ◌≢◌, ℕ, suc, Bool, true, false, List, [], ◌∷◌, ◌++◌, length, Option, None, ◌⊎◌, inl, inr, refl, ap, subst, ◌∙◌, sym}
+use Rattle.std.proofs.Common.{◌≡◌, ◌≢◌, ℕ, suc, Bool, true, false, List, [], ◌∷◌, ◌++◌, length, Option, None, ◌⊎◌, inl, inr, refl, ap, subst, ◌∙◌, sym, arith}
 use Rattle.std.specs.Prelude.{Result, Ok, Err, if◌then◌else◌}
 use Rattle.sat_base.specs.declared.name.At.{At}
 use Rattle.c_tree.specs.declared.expression.Expr.{Expr}
@@ -11,13 +11,15 @@ use Rattle.c_reader.specs.Grammar as rule
 use Rattle.c_reader.specs.Nodes as a
 use Rattle.c_reader.specs.Parts.{Part, node, word, followed}
 use Rattle.c_reader.specs.ReadExpressions.{expression_at}
-use Rattle.c_reader.specs.ReadStatements.{after, closed, many, is_comma, simple_at, more_simples_at, simples_at, condition_at, simples_before_at, some_expression, expression_before_semicolon_at}
+use Rattle.c_reader.specs.Lists.{after, is_comma, more_listed}
+use Rattle.c_reader.specs.ReadStatements.{closed, simple_at, simples_at, condition_at, simples_before_at, some_expression, expression_before_semicolon_at}
 use Rattle.c_reader.specs.Spelling.{Spells}
 use Rattle.c_reader.specs.Spots.{Spot}
 use Rattle.c_reader.specs.Stream.{ahead, rest, Fault, Parser, ◌>>=◌, both, take_at}
 use Rattle.c_reader.specs.Symbols.{same_symbol, begins_expression}
 use Rattle.c_reader.proofs.Begins.{begins_simple, spells_starts}
-use Rattle.c_reader.proofs.Many.{many-more, stops_many, many_right}
+use Rattle.c_reader.proofs.Listed.{listed_right}
+use Rattle.c_reader.proofs.Many.{one_and_many}
 use Rattle.c_reader.proofs.Maybes.{Absent, Present, maybe_right}
 use Rattle.c_reader.proofs.Right.{Ends, Stops, Right, always}
 use Rattle.c_reader.proofs.Rules.{token-ahead}
@@ -49,17 +51,8 @@ simples_end symbol.Semicolon h = refl
 simples_end symbol.CloseParen h = refl
 simples_end _ h = cc
 
-no_comma : (s : Symbol) → is_comma s ≡ true → ends_simples s ≡ true → ⊥
-no_comma s h k = let e : ends_simples symbol.Comma ≡ true = subst (λ (x : Symbol). ends_simples x ≡ true) (same-is s symbol.Comma h) k in cc
-
 abbrev of_simple : Simple → List Part
 of_simple x = node (a.simple x) ∷ []
-
-abbrev of_next : Simple → List Part
-of_next x = word symbol.Comma ∷ node (a.simple x) ∷ []
-
-abbrev of_followed : List Simple → List Part
-of_followed xs = followed a.simple xs
 
 abbrev of_separated : Simple × List Simple → List Part
 of_separated z = node (a.simple z.0) ∷ followed a.simple z.1
@@ -70,52 +63,21 @@ stops_separated z s = ends_simples s
 abbrev separated_simples : Simple × List Simple → List Simple
 separated_simples z = z.0 ∷ z.1
 
-next_begins : (x : Simple) (c : ℕ) (v s : List Spot) → Spells (of_next x) c v → is_comma (ahead (v ++ s)) ≡ true
-next_begins x c v s sp = subst (λ (y : Symbol). is_comma y ≡ true) (sym (token-ahead s sp)) refl
-
-next_filled : (x : Simple) (c : ℕ) → Spells (of_next x) c [] → ⊥
-next_filled x c sp = let t = from_token sp in let e : t.x ∷ t.rest ≡ [] = sym t.tokens in cc
-
-simples_follow : (x : Simple) (xs : List Simple) (c : ℕ) (v s : List Spot) → Spells (of_followed xs) c v → Stops (stops_many {A = Simple} ends_simples) xs s → Stops stops_simple x (v ++ s)
-simples_follow x [] c v s sp st =
-    let e : v ++ s ≡ s = ap (λ (w : List Spot). w ++ s) (from_nothing sp).tokens in
-    subst (λ (w : List Spot). ends_simple (ahead w) ≡ true) (sym e) (simples_end (ahead s) st)
-simples_follow x (y ∷ ys) c v s sp st = subst (λ (z : Symbol). ends_simple z ≡ true) (sym (token-ahead s sp)) refl
-
 -- the list as its first part and the others
 abbrev pairs_at : ℕ → Parser (Simple × List Simple)
-pairs_at n = both (simple_at n) (λ j. more_simples_at n (suc (length j)) [] j)
+pairs_at n = both (simple_at n) (more_listed (simple_at n) [])
 
 pairs-same : (n : ℕ) (i : List Spot) → onward separated_simples (pairs_at n i) ≡ simples_at n i
-unfolding simples_at more_simples_at
-pairs-same n i = step (simple_at n i)
-  where
-    joined : (x : Simple) (y : Result (List Simple × List Spot) Fault) → onward separated_simples (onward (λ (xs : List Simple). let z : Simple × List Simple = (x, xs) in z) y) ≡ onward (λ (xs : List Simple). (x ∷ []) ++ xs) y
-    joined x (Ok y) = refl
-    joined x (Err f) = refl
-
-    step : (y : Result (Simple × List Spot) Fault)
-        → onward separated_simples (y >>= (λ x. onward (λ (xs : List Simple). let z : Simple × List Simple = (x.0, xs) in z) (many is_comma (after symbol.Comma (simple_at n)) (suc (length x.1)) [] x.1)))
-        ≡ (y >>= (λ x. many is_comma (after symbol.Comma (simple_at n)) (suc (length x.1)) (x.0 ∷ []) x.1))
-    step (Ok x) =
-        joined x.0 (many is_comma (after symbol.Comma (simple_at n)) (suc (length x.1)) [] x.1) ∙ sym (many-more is_comma (after symbol.Comma (simple_at n)) (suc (length x.1)) (x.0 ∷ []) x.1)
-    step (Err f) = refl
+unfolding simples_at
+pairs-same n i = sym (one_and_many is_comma (after symbol.Comma (simple_at n)) (λ j. suc (length j)) (simple_at n i))
 
 simples_cases : (xs : List Simple) (early late : List Part) → Rule (a.simples xs) early late → Absent [] xs early late ⊎ Present separated_simples of_separated xs early late
 simples_cases xs early late rule.no_simples = inl (refl, refl, refl)
 simples_cases xs early late (rule.simples {x = y} {xs = ys}) = inr ((y, ys), refl, refl, refl)
 
 module _ (n : ℕ) (simple_right : (i : List Spot) → Ends i → Right (λ (x : Simple). node (a.simple x) ∷ []) n stops_simple [] i (simple_at n i)) where
-  more_right : (i : List Spot) → Ends i → Right of_followed n (stops_many ends_simples) [] i (more_simples_at n (suc (length i)) [] i)
-  unfolding more_simples_at
-  more_right i ends =
-      let comma : symbol.Comma ≢ symbol.End = λ e. cc in
-      many_right of_next of_followed refl (λ x xs. refl) n stops_simple is_comma ends_simples no_comma next_begins next_filled simples_follow
-      (after symbol.Comma (simple_at n)) (after_right of_simple n stops_simple symbol.Comma comma any_simple (simple_at n) simple_right) i ends
-
   pairs_right : (i : List Spot) → Ends i → Right of_separated n stops_separated [] i (pairs_at n i)
-  pairs_right i ends =
-      Right-both of_simple of_followed n stops_simple (stops_many ends_simples) simples_follow [] (simple_at n) (λ j. more_simples_at n (suc (length j)) [] j) [] i (simple_right i ends) more_right
+  pairs_right = listed_right a.simple n stops_simple ends_simples refl (λ x. refl) (λ x s e. simples_end s e) (simple_at n) simple_right (λ j. suc (length j)) (λ j. omega arith)
 
   -- none or more before a mark
   pub simples_before_right : (mark : Symbol) → mark ≢ symbol.End → ends_simples mark ≡ true → begins_simple mark ≡ false → (i : List Spot) → Ends i
@@ -165,4 +127,4 @@ module _ (n : ℕ) (expression_right : (i : List Spot) → Ends i → Right (λ 
       let first : symbol.OpenParen ≢ symbol.End = λ e. cc in
       let last : symbol.CloseParen ≢ symbol.End = λ e. cc in
       after_right (λ (e : Expr). node (a.expr e) ∷ word symbol.CloseParen ∷ []) n always symbol.OpenParen first any_expression (closed (expression_at n) symbol.CloseParen)
-      (λ j ends_j. closed_right of_expression n stops_expression symbol.CloseParen last any_expression (expression_at n) (λ e. refl) [] j (expression_right j ends_j)) i ends
+      (λ j ends_j. closed_right of_expression n stops_expression symbol.CloseParen last any_expression (expression_at n) (λ e. refl) j (expression_right j ends_j)) i ends

@@ -15,8 +15,8 @@ use Rattle.c_reader.specs.Nodes as a
 use Rattle.c_reader.specs.Parts.{Part, node}
 use Rattle.c_reader.specs.Spelling.{counted, Spells, Front}
 use Rattle.c_reader.specs.Spelling as spelling
-use Rattle.c_reader.specs.Spots.{Spot}
-use Rattle.c_reader.specs.Stream.{ahead, here}
+use Rattle.c_reader.specs.Spots.{Spot, here}
+use Rattle.c_reader.specs.Stream.{ahead}
 use Rattle.c_reader.specs.Symbols.{begins_statement}
 use Rattle.c_reader.proofs.Begins.{spells_starts}
 use Rattle.c_reader.proofs.BlockRight.{statement_filled}

@@ -18,7 +18,8 @@ use Rattle.c_reader.specs.Grammar as rule
 use Rattle.c_reader.specs.Nodes as a
 use Rattle.c_reader.specs.Parts.{Called, Part, node, Is, word, kept}
 use Rattle.c_reader.specs.ReadExpressions.{expression_at, indices_at, arguments_at, place_at}
-use Rattle.c_reader.specs.ReadStatements.{after, closed, simple_at, condition_at, simples_before_at, expression_before_semicolon_at, block_by, while_by, do_by, for_by, break_at, continue_at, return_at, simple_statement_at, next_statement, statement_with, block_with}
+use Rattle.c_reader.specs.Lists.{after}
+use Rattle.c_reader.specs.ReadStatements.{closed, simple_at, condition_at, simples_before_at, expression_before_semicolon_at, block_by, while_by, do_by, for_by, break_at, continue_at, return_at, simple_statement_at, next_statement, statement_with, block_with}
 use Rattle.c_reader.specs.Spots.{Spot}
 use Rattle.c_reader.specs.Stream.{ahead, Fault, Parser, both, take_at}
 use Rattle.c_reader.specs.Symbols.{same_symbol}
@@ -91,7 +92,7 @@ module _ (n : ℕ)
       let last = after symbol.While (closed (condition_at n) symbol.Semicolon) in
       let last_right : (j : List Spot) → Ends j → Right (λ (e : Expr). word symbol.While ∷ word symbol.OpenParen ∷ node (a.expr e) ∷ word symbol.CloseParen ∷ word symbol.Semicolon ∷ []) n always [] j (last j) =
       after_right (λ (e : Expr). word symbol.OpenParen ∷ node (a.expr e) ∷ word symbol.CloseParen ∷ word symbol.Semicolon ∷ []) n always symbol.While again any_expression (closed (condition_at n) symbol.Semicolon)
-      (λ k ends_k. closed_right of_condition n always symbol.Semicolon semicolon any_expression (condition_at n) (λ e. refl) [] k (condition_right n expression_right k ends_k)) in
+      (λ k ends_k. closed_right of_condition n always symbol.Semicolon semicolon any_expression (condition_at n) (λ e. refl) k (condition_right n expression_right k ends_k)) in
       let inner : (j : List Spot) → Ends j
       → Right (λ (z : Stmt × Expr). node (a.stmt z.0) ∷ word symbol.While ∷ word symbol.OpenParen ∷ node (a.expr z.1) ∷ word symbol.CloseParen ∷ word symbol.Semicolon ∷ []) n (both_stops (always {A = Expr})) [] j (both statement last j) =
       λ j ends_j. Right-both of_statement (λ (e : Expr). word symbol.While ∷ word symbol.OpenParen ∷ node (a.expr e) ∷ word symbol.CloseParen ∷ word symbol.Semicolon ∷ []) n stops_statement always
@@ -142,7 +143,7 @@ module _ (n : ℕ)
       let more : symbol.Break ≢ symbol.End = λ e. cc in
       let semicolon : symbol.Semicolon ≢ symbol.End = λ e. cc in
       by_rule n break_parts always i stmt.Break (λ at. rule.break refl) (break_choice i is) (closed (take_at symbol.Break) symbol.Semicolon i)
-      (closed_right (λ (at : At). kept symbol.Break at ∷ []) n always symbol.Semicolon semicolon nowhere (take_at symbol.Break) (λ at. refl) [] i (take_right symbol.Break more n i ends))
+      (closed_right (λ (at : At). kept symbol.Break at ∷ []) n always symbol.Semicolon semicolon nowhere (take_at symbol.Break) (λ at. refl) i (take_right symbol.Break more n i ends))
 
   continue_right : (i : List Spot) → Ends i → ahead i ≡ symbol.Continue → Right of_statement (suc n) stops_statement [] i (continue_at i)
   unfolding continue_at
@@ -150,7 +151,7 @@ module _ (n : ℕ)
       let more : symbol.Continue ≢ symbol.End = λ e. cc in
       let semicolon : symbol.Semicolon ≢ symbol.End = λ e. cc in
       by_rule n continue_parts always i stmt.Continue (λ at. rule.continue refl) (continue_choice i is) (closed (take_at symbol.Continue) symbol.Semicolon i)
-      (closed_right (λ (at : At). kept symbol.Continue at ∷ []) n always symbol.Semicolon semicolon nowhere (take_at symbol.Continue) (λ at. refl) [] i (take_right symbol.Continue more n i ends))
+      (closed_right (λ (at : At). kept symbol.Continue at ∷ []) n always symbol.Semicolon semicolon nowhere (take_at symbol.Continue) (λ at. refl) i (take_right symbol.Continue more n i ends))
 
   return_right : (i : List Spot) → Ends i → ahead i ≡ symbol.Return → Right of_statement (suc n) stops_statement [] i (return_at n i)
   unfolding return_at
@@ -165,7 +166,7 @@ module _ (n : ℕ)
   simple_stmt_right i ends other =
       let semicolon : symbol.Semicolon ≢ symbol.End = λ e. cc in
       by_rule n simple_stmt_parts always i stmt.Simple (λ x. rule.simple_stmt refl) (simple_stmt_choice i other) (closed (simple_at n) symbol.Semicolon i)
-      (closed_right (λ (x : Simple). node (a.simple x) ∷ []) n stops_simple symbol.Semicolon semicolon any_simple (simple_at n) (λ x. refl) [] i (simple_right_n i ends))
+      (closed_right (λ (x : Simple). node (a.simple x) ∷ []) n stops_simple symbol.Semicolon semicolon any_simple (simple_at n) (λ x. refl) i (simple_right_n i ends))
 
   next_right : (i : List Spot) → Ends i → (s : Symbol) → ahead i ≡ s → Right of_statement (suc n) stops_statement [] i (next_statement s objects n statement i)
   next_right i ends symbol.Semicolon e = empty_right i ends e

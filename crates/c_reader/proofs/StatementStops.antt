@@ -11,7 +11,8 @@ use Rattle.c_tree.proofs.StatementBoxes.{If-boxed, Else-boxed, While-boxed, For-
 use Rattle.c_reader.specs.declared.symbol.Symbol.{Symbol}
 use Rattle.c_reader.specs.declared.symbol.Symbol.TheVariants as symbol
 use Rattle.c_reader.specs.Grammar.{ends_open}
-use Rattle.c_reader.specs.ReadStatements.{after, closed, condition_at, simples_before_at, expression_before_semicolon_at, simple_at, block_by, else_by, if_by, while_by, do_by, for_by, break_at, continue_at, return_at, simple_statement_at, next_statement, statement_with}
+use Rattle.c_reader.specs.Lists.{after}
+use Rattle.c_reader.specs.ReadStatements.{closed, condition_at, simples_before_at, expression_before_semicolon_at, simple_at, block_by, else_by, if_by, while_by, do_by, for_by, break_at, continue_at, return_at, simple_statement_at, next_statement, statement_with}
 use Rattle.c_reader.specs.Spots.{Spot}
 use Rattle.c_reader.specs.Stream.{ahead, rest, Fault, Parser, ◌>>=◌, both, take_at}
 use Rattle.c_reader.specs.Symbols.{same_symbol}

@@ -7,8 +7,9 @@ use Rattle.c_reader.specs.declared.symbol.Symbol.TheVariants.{End}
 use Rattle.c_reader.specs.Parts.{Token, Part, token, Is}
 use Rattle.c_reader.specs.Spelling.{counted, Spells, Front}
 use Rattle.c_reader.specs.Spelling as spelling
-use Rattle.c_reader.specs.Spots.{Spot}
-use Rattle.c_reader.specs.Stream.{here, Fault, both, Parser, ◌>>=◌}
+use Rattle.c_reader.specs.Spots.{Spot, here}
+use Rattle.c_reader.specs.Stream.{Fault, both, Parser, ◌>>=◌}
+use Rattle.c_reader.proofs.Dependent.{first-append, refused_one, then_after, then_right}
 use Rattle.c_reader.proofs.Right.{first, first_only, Ends, Stops, Read, Bad, HasFront, Refused, Right, always}
 use Rattle.c_reader.proofs.Sequences.{from_token, from_nothing, split, join, Front-more, Front-after}
 
@@ -24,106 +25,20 @@ both_stops stops x s = stops x.1 s
 abbrev pub Follows : {A B : Type 0} → (A → Symbol → Bool) → (B → List Part) → (B → Symbol → Bool) → Type 0
 Follows {A} {B} stops_a of_b stops_b = (a : A) (b : B) (c : ℕ) (v s : List Spot) → Spells (of_b b) c v → Stops stops_b b s → Stops stops_a a (v ++ s)
 
-pub bad_more : (deep : Bool) (limit c d : ℕ) → c ≤ d → Bad deep limit c → Bad deep limit d
-bad_more false limit c d le bad = bad
-bad_more true limit c d le bad = omega arith
-
--- the first token after some is the same where what is after them begins alike
-pub first-append : (t r s : List Spot) → first r ≡ first s → first (t ++ r) ≡ first (t ++ s)
-first-append [] r s h = h
-first-append (x ∷ xs) r s h = refl
-
-same_pair : {A B : Type 0} (x : A × B) (a : A) (b : B) → x.0 ≡ a → x.1 ≡ b → x ≡ (a, b)
-same_pair {A} {B} x a b e f = ap (λ (y : A). (y, x.1)) e ∙ ap (λ (y : B). (a, y)) f
-
 module _ {A B : Type 0} (of_a : A → List Part) (of_b : B → List Part) (limit : ℕ) (stops_a : A → Symbol → Bool) (stops_b : B → Symbol → Bool) (follows : Follows stops_a of_b stops_b) where
-  more_fronts : (a : A) (b : B) (d : ℕ) (t u : List Spot) → Front (of_a a) d t ⊎ Front (of_a a) d u → Front (of_a a ++ of_b b) d t ⊎ Front (of_a a ++ of_b b) d u
-  more_fronts a b d t u (inl x) = inl (Front-more (of_b b) x)
-  more_fronts a b d t u (inr x) = inr (Front-more (of_b b) x)
-
-  front_first : B → (deep : Bool) (tokens rest : List Spot) → HasFront of_a limit deep tokens rest → HasFront (both_parts of_a of_b) limit deep tokens rest
-  front_first b false tokens rest h = ((h.0, b), h.1, Front-more (of_b b) h.2)
-  front_first b true tokens rest h = ((h.0, b), h.1, more_fronts h.0 b h.1 tokens (tokens ++ first_only rest) h.2, h.3, h.4)
-
-  -- the first thing is refused
+  -- the first thing is refused; b is anything of its kind
   pub refused_first : B → (before i : List Spot) (f : Fault) → Refused of_a limit stops_a before i f → Refused (both_parts of_a of_b) limit (both_stops stops_b) before i f
-  refused_first b before i f r =
-      let dead = λ (x : A × B) (c : ℕ) (v s rest : List Spot) (sp : Spells (of_a x.0 ++ of_b x.1) c v) (st : Stops stops_b x.1 s) (e : v ++ s ≡ before ++ (r.more ++ rest)) (h : first rest ≡ first r.rest).
-      let p = split (of_a x.0) (of_b x.1) sp in
-      let e2 : p.u ++ (p.v ++ s) ≡ before ++ (r.more ++ rest) = sym (append_assoc p.u p.v s) ∙ ap (λ (w : List Spot). w ++ s) (sym p.tokens) ∙ e in
-      bad_more f.deep limit p.c c (omega (arith, p.depth)) (r.dead x.0 p.c p.u (p.v ++ s) rest p.left (follows x.0 x.1 p.d p.v s p.right st) e2 h) in
-      record { more = r.more; rest = r.rest; whole = r.whole; place = r.place; ends = r.ends; dead = dead; front = front_first b f.deep (before ++ r.more) r.rest r.front }
-
-  -- what is spelled after the first thing
-  after_first : (before i : List Spot) (a : A) (j : List Spot) (r : Read of_a limit stops_a before i a j) (t k : List Spot) → j ≡ t ++ k
-      → (x : A × B) (c : ℕ) (v s rest : List Spot) → Spells (of_a x.0 ++ of_b x.1) c v → Stops stops_b x.1 s → v ++ s ≡ before ++ ((r.more ++ t) ++ rest) → first rest ≡ first k
-      → (x.0 ≡ a) × (d : ℕ) × (w : List Spot) × Spells (of_b x.1) d w × (w ++ s ≡ t ++ rest) × (d ≤ c)
-  after_first before i a j r t k whole x c v s rest sp st e h =
-      let p = split (of_a x.0) (of_b x.1) sp in
-      let e2 : p.u ++ (p.v ++ s) ≡ before ++ (r.more ++ (t ++ rest)) = sym (append_assoc p.u p.v s) ∙ ap (λ (w : List Spot). w ++ s) (sym p.tokens) ∙ e ∙ ap (λ (w : List Spot). before ++ w) (append_assoc r.more t rest) in
-      let h2 : first (t ++ rest) ≡ first j = first-append t rest k h ∙ ap first (sym whole) in
-      let o = r.only x.0 p.c p.u (p.v ++ s) (t ++ rest) p.left (follows x.0 x.1 p.d p.v s p.right st) e2 h2 in
-      (o.0, p.d, p.v, p.right, o.1, omega (arith, p.depth))
-
-  front_second : (a : A) (c : ℕ) (before u : List Spot) → Spells (of_a a) c (before ++ u) → (deep : Bool) (tokens rest : List Spot) → HasFront of_b limit deep tokens rest → HasFront (both_parts of_a of_b) limit deep (before ++ (u ++ tokens)) rest
-  front_second a c before u sp false tokens rest h = ((a, h.0), max c h.1, subst (λ (w : List Spot). Front (of_a a ++ of_b h.0) (max c h.1) w) (append_assoc before u tokens) (Front-after sp h.2))
-  front_second a c before u sp true tokens rest h = ((a, h.0), max c h.1, both_fronts h.2, omega (arith, h.3), h.4)
-    where
-      both_fronts : Front (of_b h.0) h.1 tokens ⊎ Front (of_b h.0) h.1 (tokens ++ first_only rest)
-          → Front (of_a a ++ of_b h.0) (max c h.1) (before ++ (u ++ tokens)) ⊎ Front (of_a a ++ of_b h.0) (max c h.1) ((before ++ (u ++ tokens)) ++ first_only rest)
-      both_fronts (inl x) = inl (subst (λ (w : List Spot). Front (of_a a ++ of_b h.0) (max c h.1) w) (append_assoc before u tokens) (Front-after sp x))
-      both_fronts (inr x) =
-          let e : (before ++ u) ++ (tokens ++ first_only rest) ≡ (before ++ (u ++ tokens)) ++ first_only rest = simp append_assoc in
-          inr (subst (λ (w : List Spot). Front (of_a a ++ of_b h.0) (max c h.1) w) e (Front-after sp x))
-
-  -- the first thing is read, and the second is refused
-  pub refused_second : (before i : List Spot) (a : A) (j : List Spot) (f : Fault) → Read of_a limit stops_a before i a j → Refused of_b limit stops_b [] j f → Refused (both_parts of_a of_b) limit (both_stops stops_b) before i f
-  refused_second before i a j f r q =
-      let dead = λ (x : A × B) (c : ℕ) (v s rest : List Spot) (sp : Spells (of_a x.0 ++ of_b x.1) c v) (st : Stops stops_b x.1 s) (e : v ++ s ≡ before ++ ((r.more ++ q.more) ++ rest)) (h : first rest ≡ first q.rest).
-      let p = after_first before i a j r q.more q.rest q.whole x c v s rest sp st e h in
-      bad_more f.deep limit p.1 c p.5 (q.dead x.1 p.1 p.2 s rest p.3 st p.4 h) in
-      record {
-        more = r.more ++ q.more;
-        rest = q.rest;
-        whole = r.whole ∙ ap (λ (w : List Spot). r.more ++ w) q.whole ∙ sym (append_assoc r.more q.more q.rest);
-        place = q.place;
-        ends = q.ends;
-        dead = dead;
-        front = front_second a r.depth before r.more r.spelled f.deep q.more q.rest q.front;
-      }
-
-  -- both are read
-  pub read_both : (before i : List Spot) (a : A) (j : List Spot) (b : B) (k : List Spot) → Read of_a limit stops_a before i a j → Read of_b limit stops_b [] j b k → Read (both_parts of_a of_b) limit (both_stops stops_b) before i (a, b) k
-  read_both before i a j b k r q =
-      let only = λ (x : A × B) (c : ℕ) (v s rest : List Spot) (sp : Spells (of_a x.0 ++ of_b x.1) c v) (st : Stops stops_b x.1 s) (e : v ++ s ≡ before ++ ((r.more ++ q.more) ++ rest)) (h : first rest ≡ first k).
-      let p = after_first before i a j r q.more k q.whole x c v s rest sp st e h in
-      let o = q.only x.1 p.1 p.2 s rest p.3 st p.4 h in
-      let both_same : (x ≡ (a, b)) × (s ≡ rest) = (same_pair x a b p.0 o.0, o.1) in
-      both_same in
-      record {
-        more = r.more ++ q.more;
-        depth = max r.depth q.depth;
-        whole = r.whole ∙ ap (λ (w : List Spot). r.more ++ w) q.whole ∙ sym (append_assoc r.more q.more k);
-        spelled = subst (λ (w : List Spot). Spells (of_a a ++ of_b b) (max r.depth q.depth) w) (append_assoc before r.more q.more) (join r.spelled q.spelled);
-        within = omega (arith, r.within, q.within);
-        ends = q.ends;
-        only = only;
-      }
+  refused_first b = refused_one of_a (λ a. of_b) limit stops_a (λ a. stops_b) follows (λ a. b)
 
   -- the second thing after the first, which is read
   pub Right-after : (before i : List Spot) (a : A) (j : List Spot) → Read of_a limit stops_a before i a j → (y : Result (B × List Spot) Fault) → Right of_b limit stops_b [] j y
       → Right (both_parts of_a of_b) limit (both_stops stops_b) before i (y >>= (λ z. Ok ((a, z.0), z.1)))
-  Right-after before i a j r (Ok y) q = read_both before i a j y.0 y.1 r q
-  Right-after before i a j r (Err f) q = refused_second before i a j f r q
+  Right-after = then_after of_a (λ a. of_b) limit stops_a (λ a. stops_b) follows
 
-  -- one after the other, where the second is read rightly after the first; b is anything of its kind
+  -- one after the other, where the second is read rightly after the first
   pub Right-both : B → (p : Parser A) (q : Parser B) (before i : List Spot) → Right of_a limit stops_a before i (p i) → ((j : List Spot) → Ends j → Right of_b limit stops_b [] j (q j))
       → Right (both_parts of_a of_b) limit (both_stops stops_b) before i (both p q i)
-  Right-both b p q before i r next = step (p i) r
-    where
-      step : (x : Result (A × List Spot) Fault) → Right of_a limit stops_a before i x → Right (both_parts of_a of_b) limit (both_stops stops_b) before i (x >>= (λ x. q x.1 >>= (λ y. Ok ((x.0, y.0), y.1))))
-      step (Ok x) r = Right-after before i x.0 x.1 r (q x.1) (next x.1 r.ends)
-      step (Err f) r = refused_first b before i f r
+  Right-both b p q before i r next = then_right of_a (λ a. of_b) limit stops_a (λ a. stops_b) follows (λ a. b) (p i) (λ a. q) before i r (λ a j read. next j read.ends)
 
 -- ---- a token
 

@@ -177,6 +177,3 @@ pub operand-place : (s : Symbol) → ends_operand s ≡ true → ends_place s �
 operand-place symbol.OpenBracket e = e
 operand-place symbol.End e = e
 operand-place _ e = refl
-
-pub expression-operand : (s : Symbol) → ends_expression s ≡ true → ends_operand s ≡ true
-expression-operand s e = chain-operand 0 s (expression-chain 0 s e)

@@ -22,10 +22,6 @@ nowhere = record { tok = 0; pos = record { line = 1; col = 1 } }
 pub no_name : Named
 no_name = record { at = nowhere; name = [] }
 
-pub ahead-first : (i : List Spot) (x : Spot) → first i ≡ Some x → ahead i ≡ x.symbol
-ahead-first [] x e = cc
-ahead-first (y ∷ ys) x e = let s : y ≡ x = cc in ap (λ (z : Spot). z.symbol) s
-
 -- what begins with the same token has the same symbol ahead
 pub ahead-same : (i j : List Spot) → first i ≡ first j → ahead i ≡ ahead j
 ahead-same [] [] e = refl

@@ -14,8 +14,8 @@ use Rattle.c_reader.specs.Parts.{Part, node, word, kept}
 use Rattle.c_reader.specs.ReadExpressions.{type_by, type_at}
 use Rattle.c_reader.specs.Spelling.{Spells, Front}
 use Rattle.c_reader.specs.Spelling as spelling
-use Rattle.c_reader.specs.Spots.{Spot}
-use Rattle.c_reader.specs.Stream.{ahead, here, rest}
+use Rattle.c_reader.specs.Spots.{Spot, here}
+use Rattle.c_reader.specs.Stream.{ahead, rest}
 use Rattle.c_reader.specs.Symbols.{same_symbol, width_of}
 use Rattle.c_reader.proofs.Right.{first, Ends, Stops, Read, Refused, Right}
 use Rattle.c_reader.proofs.Sequences.{from_token, from_node, from_nothing}

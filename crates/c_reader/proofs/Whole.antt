@@ -14,8 +14,8 @@ use Rattle.c_reader.specs.Nodes as a
 use Rattle.c_reader.specs.Parts.{Part, each}
 use Rattle.c_reader.specs.Programs.{SpellsItems, FrontSpells, DepthsAreThoseOfTrees, Through, place_of, stream_of, IsSyntaxFault, IsTooDeep}
 use Rattle.c_reader.specs.Spelling as parts
-use Rattle.c_reader.specs.Spots.{Spot, spots_of, end_of}
-use Rattle.c_reader.specs.Stream.{ahead, here, Fault}
+use Rattle.c_reader.specs.Spots.{Spot, spots_of, end_of, here}
+use Rattle.c_reader.specs.Stream.{ahead, Fault}
 use Rattle.c_reader.specs.Symbols.{same_symbol}
 use Rattle.c_reader.proofs.Depths.{program_depth, whole_front}
 use Rattle.c_reader.proofs.Numbers.{length-spots, number-here, only-end, begins-alike, drop-length, take-length}

@@ -1,6 +1,7 @@
 pub mod Gives
 pub mod Grammar
 pub mod Heights
+pub mod Lists
 pub mod Marks
 pub mod Nodes
 pub mod Parts

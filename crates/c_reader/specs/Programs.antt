@@ -11,8 +11,7 @@ use Rattle.c_reader.specs.declared.refusal.ReadRefusal.TheVariants as refusal
 use Rattle.c_reader.specs.Nodes as a
 use Rattle.c_reader.specs.Parts.{each}
 use Rattle.c_reader.specs.Spelling as parts
-use Rattle.c_reader.specs.Spots.{Spot, spots_of, end_of}
-use Rattle.c_reader.specs.Stream.{here}
+use Rattle.c_reader.specs.Spots.{Spot, spots_of, end_of, here}
 
 -- the items of the program, of which there is one or more, spell these tokens
 pub record SpellsItems (program : Program) (tokens : List Spot) : Type 0 where

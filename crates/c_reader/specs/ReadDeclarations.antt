@@ -14,9 +14,10 @@ use Rattle.c_reader.specs.declared.declaration.Qualifiers.{Qualifiers}
 use Rattle.c_reader.specs.declared.declaration.Specifiers.{Specifiers}
 use Rattle.c_reader.specs.declared.symbol.Symbol.{Symbol}
 use Rattle.c_reader.specs.declared.symbol.Symbol.TheVariants as symbol
+use Rattle.c_reader.specs.Lists.{more_listed}
 use Rattle.c_reader.specs.ReadExpressions.{type_at, index_by, expression_at, argument_at}
-use Rattle.c_reader.specs.Spots.{Spot}
-use Rattle.c_reader.specs.Stream.{ahead, here, rest, Parser, ◌>>=◌, both, mapped, take_at, name_at}
+use Rattle.c_reader.specs.Spots.{Spot, here}
+use Rattle.c_reader.specs.Stream.{ahead, rest, Parser, ◌>>=◌, both, mapped, take_at, name_at}
 use Rattle.c_reader.specs.Symbols.{same_symbol}
 
 -- a quoted token of which nothing is kept
@@ -29,14 +30,8 @@ passed s i = if same_symbol (ahead i) s then rest i else i
 
 -- ---- lists with commas
 
--- what follows the first, each after a comma; the number is how many there may be
-unfoldable pub more_listed : {A : Type 0} → ℕ → Parser A → List A → Parser (List A)
-more_listed zero p xs i = Ok (xs, i)
-more_listed (suc fuel) p xs i =
-    if same_symbol (ahead i) symbol.Comma then p (rest i) >>= (λ x. more_listed fuel p (xs ++ x.0 ∷ []) x.1)
-    else Ok (xs, i)
-
--- the same, where a comma may stand before the `}` that follows
+-- what follows the first, each after a comma, where one more comma may stand before the `}` that follows; the number
+-- is how many there may be
 unfoldable pub more_braced : {A : Type 0} → ℕ → Parser A → List A → Parser (List A)
 more_braced zero p xs i = Ok (xs, i)
 more_braced (suc fuel) p xs i =
@@ -135,7 +130,7 @@ declarator_at n s i =
 
 -- what follows the first declarator, each after a comma
 unfoldable pub declarators_at : ℕ → Specifiers → Decl → Parser (List Decl)
-declarators_at n s first i = more_listed (length i) (declarator_at n s) (first ∷ []) i
+declarators_at n s first i = more_listed (declarator_at n s) (first ∷ []) i
 
 abbrev pub objects_of : At → List Decl → Objects
 objects_of at decls = record { at = at; decls = decls }

@@ -18,8 +18,8 @@ use Rattle.sat_base.specs.declared.width.Width.{Width}
 use Rattle.c_reader.specs.declared.symbol.Symbol.{Symbol}
 use Rattle.c_reader.specs.declared.symbol.Symbol.TheVariants as symbol
 use Rattle.c_reader.specs.Marks.{rank_of}
-use Rattle.c_reader.specs.Spots.{Spot}
-use Rattle.c_reader.specs.Stream.{ahead, here, rest, Parser, ◌>>=◌, both, mapped, take_at, name_at, number_at, syntax_at, too_deep_at, refuse_at}
+use Rattle.c_reader.specs.Spots.{Spot, here}
+use Rattle.c_reader.specs.Stream.{ahead, rest, Parser, ◌>>=◌, both, mapped, take_at, name_at, number_at, syntax_at, too_deep_at, refuse_at}
 use Rattle.c_reader.specs.Symbols.{same_symbol, binary_mark, unary_mark, width_of, begins_type, begins_expression}
 
 -- `int` may follow `short` and `long`

@@ -13,9 +13,11 @@ use Rattle.c_reader.specs.declared.declaration.Qualifiers.{Qualifiers}
 use Rattle.c_reader.specs.declared.declaration.Specifiers.{Specifiers}
 use Rattle.c_reader.specs.declared.symbol.Symbol.{Symbol}
 use Rattle.c_reader.specs.declared.symbol.Symbol.TheVariants as symbol
-use Rattle.c_reader.specs.ReadDeclarations.{word_at, passed, more_listed, qualifiers_at, dimension_at, declarator_at, named_declarator_at, objects_from_at}
+use Rattle.c_reader.specs.Lists.{many, listed_at}
+use Rattle.c_reader.specs.ReadDeclarations.{word_at, passed, qualifiers_at, dimension_at, declarator_at, named_declarator_at, objects_from_at}
 use Rattle.c_reader.specs.ReadExpressions.{type_at}
-use Rattle.c_reader.specs.Stream.{ahead, here, rest, Parser, ◌>>=◌, both, mapped, take_at, name_at}
+use Rattle.c_reader.specs.Spots.{here}
+use Rattle.c_reader.specs.Stream.{ahead, rest, Parser, ◌>>=◌, both, mapped, take_at, name_at}
 use Rattle.c_reader.specs.Symbols.{same_symbol}
 
 -- ---- parameters
@@ -39,7 +41,7 @@ param_at n i =
     mapped (param_of (here i) (same_symbol (ahead i) symbol.Const) x.0 (same_symbol (ahead x.1) symbol.Star) y.0) (param_dimension_at n (same_symbol (ahead x.1) symbol.Star)) y.1))
 
 unfoldable pub listed_params_at : ℕ → Parser (List Param)
-listed_params_at n i = param_at n i >>= (λ x. more_listed (length x.1) (param_at n) (x.0 ∷ []) x.1)
+listed_params_at n = listed_at (param_at n)
 
 unfoldable pub params_at : ℕ → Parser (List Param)
 params_at n i =
@@ -103,12 +105,9 @@ item_at block n i =
     if same_symbol (ahead i) symbol.Extern then extern_flag_at i
     else qualified_item_at block n (qualifiers_at i).0 (qualifiers_at i).1
 
--- what follows the first item, up to the end; the number is how many there may be
-unfoldable pub more_items : ℕ → Parser Item → List Item → Parser (List Item)
-more_items zero p xs i = Ok (xs, i)
-more_items (suc fuel) p xs i =
-    if same_symbol (ahead i) symbol.End then Ok (xs, i)
-    else p i >>= (λ x. more_items fuel p (xs ++ x.0 ∷ []) x.1)
+abbrev pub before_end : Symbol → Bool
+before_end s = not (same_symbol s symbol.End)
 
+-- one item or more, up to the end
 unfoldable pub items_at : Parser Block → ℕ → Parser (List Item)
-items_at block n i = item_at block n i >>= (λ x. more_items (length x.1) (item_at block n) (x.0 ∷ []) x.1)
+items_at block n i = item_at block n i >>= (λ x. many before_end (item_at block n) (suc (length x.1)) (x.0 ∷ []) x.1)

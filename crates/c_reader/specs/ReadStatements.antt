@@ -14,15 +14,13 @@ use Rattle.c_tree.specs.declared.statement.Stmt.TheVariants as stmt
 use Rattle.c_tree.specs.Starts.{start_of_place}
 use Rattle.c_reader.specs.declared.symbol.Symbol.{Symbol}
 use Rattle.c_reader.specs.declared.symbol.Symbol.TheVariants as symbol
-use Rattle.c_reader.specs.Stream.{ahead, here, rest, Parser, ◌>>=◌, both, mapped, take_at, name_at, syntax_at, refuse_at}
+use Rattle.c_reader.specs.Lists.{after, many, listed_at}
+use Rattle.c_reader.specs.Spots.{here}
+use Rattle.c_reader.specs.Stream.{ahead, rest, Parser, ◌>>=◌, both, mapped, take_at, name_at, syntax_at, refuse_at}
 use Rattle.c_reader.specs.Symbols.{same_symbol, assign_mark, step_of, begins_objects, begins_statement}
 use Rattle.c_reader.specs.ReadExpressions.{expression_at, indices_at, indirection_at, arguments_at, place_at}
 
 -- ---- in common
-
--- after this token
-abbrev pub after : {A : Type 0} → Symbol → Parser A → Parser A
-after s p i = take_at s i >>= (λ x. p x.1)
 
 -- before this token
 abbrev pub closed : {A : Type 0} → Parser A → Symbol → Parser A
@@ -32,11 +30,6 @@ closed p s i = p i >>= (λ x. take_at s x.1 >>= (λ y. Ok (x.0, y.1)))
 abbrev pub mark_by : {M : Type 0} → Option M → Parser (M × At)
 mark_by None i = syntax_at i
 mark_by (Some mark) i = Ok ((mark, here i), rest i)
-
--- one after another while what is ahead goes on with them; the number is more than there may be
-unfoldable pub many : {A : Type 0} → (Symbol → Bool) → Parser A → ℕ → List A → Parser (List A)
-many goes item zero xs i = Ok (xs, i)
-many goes item (suc fuel) xs i = if goes (ahead i) then item i >>= (λ x. many goes item fuel (xs ++ x.0 ∷ []) x.1) else Ok (xs, i)
 
 -- ---- assignments, steps and calls
 
@@ -76,15 +69,8 @@ simple_by _ n = step_before_at n
 unfoldable pub simple_at : ℕ → Parser Simple
 simple_at n i = simple_by (ahead i) n i
 
-abbrev pub is_comma : Symbol → Bool
-is_comma s = same_symbol s symbol.Comma
-
--- those after commas
-unfoldable pub more_simples_at : ℕ → ℕ → List Simple → Parser (List Simple)
-more_simples_at n fuel = many is_comma (after symbol.Comma (simple_at n)) fuel
-
 unfoldable pub simples_at : ℕ → Parser (List Simple)
-simples_at n i = simple_at n i >>= (λ x. more_simples_at n (suc (length x.1)) (x.0 ∷ []) x.1)
+simples_at n = listed_at (simple_at n)
 
 -- ---- parts of statements
 

@@ -121,3 +121,8 @@ spots_of tokens = spots_from tokens.text 0 tokens.list
 -- what stands for the end of all tokens
 abbrev pub end_of : Tokens → Spot
 end_of tokens = record { at = record { tok = length tokens.list; pos = tokens.end }; symbol = symbol.End; name = []; value = pos 0 }
+
+-- the number and place of the first of these
+abbrev pub here : List Spot → At
+here [] = record { tok = 0; pos = record { line = 1; col = 1 } }
+here (x ∷ xs) = x.at

@@ -5,18 +5,13 @@ use Rattle.sat_base.specs.declared.name.Named.{Named}
 use Rattle.c_reader.specs.declared.symbol.Symbol.{Symbol}
 use Rattle.c_reader.specs.declared.symbol.Symbol.TheVariants.{End}
 use Rattle.c_reader.specs.declared.symbol.Symbol.TheVariants as symbol
-use Rattle.c_reader.specs.Spots.{Spot}
+use Rattle.c_reader.specs.Spots.{Spot, here}
 use Rattle.c_reader.specs.Symbols.{same_symbol}
 
 -- what the first token is to the grammar
 abbrev pub ahead : List Spot → Symbol
 ahead [] = End
 ahead (x ∷ xs) = x.symbol
-
--- its number and place
-abbrev pub here : List Spot → At
-here [] = record { tok = 0; pos = record { line = 1; col = 1 } }
-here (x ∷ xs) = x.at
 
 -- where reading stops, and whether it is for want of depth
 pub record Fault : Type 0 where

@@ -7,7 +7,8 @@ ghost use Rattle.c_reader.specs.declared.symbol.Symbol.TheVariants as symbols;
 ghost use Rattle.c_reader.specs.Gives.{Gives, left};
 ghost use Rattle.c_reader.specs.Heights.{IsMeasured};
 ghost use Rattle.c_reader.specs.ReadExpressions.{expression_at, branches_by, chain_at, unary_at, marks_at, indirection_at, bracketed_by, named_value_by, reading, readers, ranked, unmarked};
-ghost use Rattle.c_reader.specs.Stream.{ahead, here, rest, mapped, number_at};
+ghost use Rattle.c_reader.specs.Spots.{here};
+ghost use Rattle.c_reader.specs.Stream.{ahead, rest, mapped, number_at};
 ghost use Rattle.c_reader.specs.Symbols.{binary_mark};
 
 use crate::measured::Measured;

@@ -14,8 +14,9 @@ mod refusal;
 mod simple;
 mod spot;
 mod statement;
-pub mod symbol;
+mod symbol;
 
 pub use laws::{depths_of_trees, one_tree};
 pub use program::read;
 pub use refusal::ReadRefusal;
+pub use symbol::Symbol;

@@ -3,7 +3,8 @@
 ghost use Rattle.std.specs.Prelude.{◌≡◌, ◌≤◌, if◌then◌else◌, true, false, ◌∷◌, length, map, IfOk};
 ghost use Rattle.c_reader.specs.declared.refusal.ReadRefusal.TheVariants as refusals;
 ghost use Rattle.c_reader.specs.Gives.{Gives, left, seen};
-ghost use Rattle.c_reader.specs.Stream.{ahead, here, rest, take_at, name_at, number_at, first_or_end};
+ghost use Rattle.c_reader.specs.Spots.{here};
+ghost use Rattle.c_reader.specs.Stream.{ahead, rest, take_at, name_at, number_at, first_or_end};
 ghost use Rattle.c_reader.specs.Symbols.{same_symbol};
 
 use crate::refusal::ReadRefusal;

@@ -94,7 +94,7 @@ impl Reader<'_> {
     }
 
     /// One assignment, step or call or more, separated by commas.
-    #[tactic(auto, unfolding(crate::specs::ReadStatements::simples_at, crate::specs::ReadStatements::more_simples_at))]
+    #[tactic(auto, unfolding(crate::specs::ReadStatements::simples_at))]
     pub(crate) fn simples(
         &mut self,
         alloc: Global,

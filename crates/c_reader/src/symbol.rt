@@ -154,7 +154,7 @@ fn symbol_written(table: &[(&str, Symbol)], bytes: &[u8]) -> Symbol
 }
 
 /// What a token of this kind with these bytes is.
-pub fn symbol_of(kind: TokenKind, bytes: &[u8]) -> Symbol
+pub(crate) fn symbol_of(kind: TokenKind, bytes: &[u8]) -> Symbol
     ensures { result ≡ symbol_of kind bytes.now }
 {
     match kind {
@@ -167,7 +167,7 @@ pub fn symbol_of(kind: TokenKind, bytes: &[u8]) -> Symbol
 
 impl Symbol {
     /// Whether it is this symbol.
-    pub fn is(self, other: Symbol) -> bool
+    pub(crate) fn is(self, other: Symbol) -> bool
         ensures { result ≡ same_symbol self other }
     {
         self as u32 == other as u32
@@ -175,7 +175,7 @@ impl Symbol {
 }
 
 /// The mark between two operands that the symbol is.
-pub fn binary_mark(symbol: Symbol) -> Option<BinaryMark>
+pub(crate) fn binary_mark(symbol: Symbol) -> Option<BinaryMark>
     ensures { result ≡ binary_mark symbol }
 {
     match symbol {
@@ -198,7 +198,7 @@ pub fn binary_mark(symbol: Symbol) -> Option<BinaryMark>
 }
 
 /// The rank of the mark: from 1 for the one that binds its operands the tightest to 9 (C90, 6.3.5 to 6.3.14).
-pub fn rank_of(mark: BinaryMark) -> u32
+pub(crate) fn rank_of(mark: BinaryMark) -> u32
     ensures { result ≡ rank_of mark }
 {
     match mark {
@@ -215,7 +215,7 @@ pub fn rank_of(mark: BinaryMark) -> u32
 }
 
 /// The mark of assignment that the symbol is (C90, 6.3.16).
-pub fn assign_mark(symbol: Symbol) -> Option<AssignMark>
+pub(crate) fn assign_mark(symbol: Symbol) -> Option<AssignMark>
     ensures { result ≡ assign_mark symbol }
 {
     match symbol {
@@ -231,7 +231,7 @@ pub fn assign_mark(symbol: Symbol) -> Option<AssignMark>
 }
 
 /// The mark before an operand that the symbol is (C90, 6.3.3.3).
-pub fn unary_mark(symbol: Symbol) -> Option<UnaryMark>
+pub(crate) fn unary_mark(symbol: Symbol) -> Option<UnaryMark>
     ensures { result ≡ unary_mark symbol }
 {
     match symbol {
@@ -244,7 +244,7 @@ pub fn unary_mark(symbol: Symbol) -> Option<UnaryMark>
 }
 
 /// Whether the symbol is the step upward, `++`, where it is a step.
-pub fn step_of(symbol: Symbol) -> Option<bool>
+pub(crate) fn step_of(symbol: Symbol) -> Option<bool>
     ensures { result ≡ step_of symbol }
 {
     match symbol {
@@ -255,7 +255,7 @@ pub fn step_of(symbol: Symbol) -> Option<bool>
 }
 
 /// The width of the type that begins with the symbol (C90, 6.5.2).
-pub fn width_of(symbol: Symbol) -> Option<Width>
+pub(crate) fn width_of(symbol: Symbol) -> Option<Width>
     ensures { result ≡ width_of symbol }
 {
     match symbol {
@@ -266,7 +266,7 @@ pub fn width_of(symbol: Symbol) -> Option<Width>
 }
 
 /// Whether a type begins with the symbol.
-pub fn begins_type(symbol: Symbol) -> bool
+pub(crate) fn begins_type(symbol: Symbol) -> bool
     ensures { result ≡ begins_type symbol }
 {
     matches!(
@@ -281,14 +281,14 @@ pub fn begins_type(symbol: Symbol) -> bool
 }
 
 /// Whether a declaration of objects begins with the symbol.
-pub fn begins_objects(symbol: Symbol) -> bool
+pub(crate) fn begins_objects(symbol: Symbol) -> bool
     ensures { result ≡ begins_objects symbol }
 {
     matches!(symbol, Symbol::Static | Symbol::Const) || begins_type(symbol)
 }
 
 /// Whether an expression begins with the symbol.
-pub fn begins_expression(symbol: Symbol) -> bool
+pub(crate) fn begins_expression(symbol: Symbol) -> bool
     ensures { result ≡ begins_expression symbol }
 {
     matches!(
@@ -306,7 +306,7 @@ pub fn begins_expression(symbol: Symbol) -> bool
 }
 
 /// Whether a statement begins with the symbol.
-pub fn begins_statement(symbol: Symbol) -> bool
+pub(crate) fn begins_statement(symbol: Symbol) -> bool
     ensures { result ≡ begins_statement symbol }
 {
     matches!(

@@ -9,8 +9,8 @@ use Rattle.c_reader.specs.declared.measured.Measured.{Measured}
 use Rattle.c_reader.specs.declared.symbol.Symbol.TheVariants as symbol
 use Rattle.c_reader.specs.Gives.{Gives, Fails, left}
 use Rattle.c_reader.specs.ReadExpressions.{expression_at, branches_by, chain_at, marks_at, ranked, unmarked}
-use Rattle.c_reader.specs.Stream.{ahead, here, rest, Fault}
-use Rattle.c_reader.specs.Spots.{Spot}
+use Rattle.c_reader.specs.Stream.{ahead, rest, Fault}
+use Rattle.c_reader.specs.Spots.{Spot, here}
 use Rattle.c_reader.specs.Symbols.{binary_mark, same_symbol}
 use Rattle.c_reader.proofs.HeightEquations.{call_depth, binary_depth}
 use Rattle.c_reader.proofs.ReaderEquations.{expression_chosen}

@@ -3,7 +3,7 @@ use Rattle.std.proofs.Common.{length, refl, sym, ◌∙◌, ap, arith}
 use Rattle.c_reader.specs.declared.symbol.Symbol.TheVariants as symbol
 use Rattle.c_reader.specs.Gives.{left}
 use Rattle.c_reader.specs.ReadDeclarations.{declarator_at, declarators_at}
-use Rattle.c_reader.proofs.Going.{rest_passed, rest_kept, shorter_rest, gives_refusal, listed_step, listed_fails, listed_ended}
+use Rattle.c_reader.proofs.StatementLoops.{rest_passed, rest_kept, shorter_rest, gives_residual, listed_step, listed_fails, listed_ended}
 use Rattle.c_reader.proofs.reader.Reader.declarators.Goals as goal
 
 pub returns-in_err-declarator-clause-read : goal.returns-in_err-declarator-clause-read
@@ -14,7 +14,7 @@ returns-in_err-declarator-clause-read c =
     let start = declarators_at c.args.limit c.args.specifiers c.args.first (left c.args.self.now) in
     let is = rest_passed c.pass_if.result i k c.pass_if.ensures.rest c.loop-alloc-test.true in
     let bad = listed_fails item start c.in_err-declarator.field-0.0 c.loop-alloc.decls i k c.loop-alloc.invariant.0 (sym c.pass_if.ensures.value ∙ c.loop-alloc-test.true) is c.in_err-declarator.ensures.read in
-    gives_refusal (λ x. x) c.from_residual-in_err-declarator.result c.in_err-declarator.field-0.0 (left c.declarator.new.self) start c.from_residual-in_err-declarator.ensures.1 bad
+    gives_residual (λ x. x) c.from_residual-in_err-declarator.result c.in_err-declarator.field-0.0 (left c.declarator.new.self) start c.from_residual-in_err-declarator.ensures.1 bad
 
 pub loop-alloc-preserved : goal.loop-alloc-preserved
 loop-alloc-preserved c =

@@ -1,12 +1,14 @@
 -- What the loop over commas keeps.
 use Rattle.std.proofs.Common.{◌≤◌, length}
+use Rattle.c_reader.specs.declared.symbol.Symbol.TheVariants as symbol
 use Rattle.c_reader.specs.Gives.{left}
+use Rattle.c_reader.specs.Lists.{after, is_comma}
 use Rattle.c_reader.specs.ReadDeclarations.{declarator_at, declarators_at}
-use Rattle.c_reader.proofs.Going.{Going, listed_loop}
+use Rattle.c_reader.proofs.StatementLoops.{Goes}
 use Rattle.c_reader.proofs.reader.Reader.declarators.Given as goal
 
 abbrev pub invariant-loop-alloc : goal.invariant-loop-alloc
-invariant-loop-alloc l = Going (listed_loop (declarator_at l.limit l.specifiers)) (declarators_at l.limit l.specifiers l.fn.first (left l.fn.self)) l.decls (left l.self) × (length (left l.self) ≤ length (left l.fn.self))
+invariant-loop-alloc l = Goes is_comma (after symbol.Comma (declarator_at l.limit l.specifiers)) (declarators_at l.limit l.specifiers l.fn.first (left l.fn.self)) l.decls (left l.self) × (length (left l.self) ≤ length (left l.fn.self))
 
 abbrev pub decreases-loop-alloc : goal.decreases-loop-alloc
 decreases-loop-alloc l = length (left l.self)

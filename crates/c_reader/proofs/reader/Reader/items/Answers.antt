@@ -1,13 +1,13 @@
 -- The loop over items goes on as reading does.
-use Rattle.std.proofs.Common.{◌≡◌, true, false, arith}
+use Rattle.std.proofs.Common.{◌≡◌, true, false, not, ap, arith}
 use Rattle.c_reader.specs.declared.symbol.Symbol.TheVariants as symbol
 use Rattle.c_reader.specs.Gives.{left}
 use Rattle.c_reader.specs.ReadDeclarations.{objects_at}
-use Rattle.c_reader.specs.ReadSource.{item_at, items_at}
+use Rattle.c_reader.specs.ReadSource.{item_at, before_end, items_at}
 use Rattle.c_reader.specs.ReadStatements.{block_with}
 use Rattle.c_reader.specs.Stream.{ahead}
 use Rattle.c_reader.specs.Symbols.{same_symbol}
-use Rattle.c_reader.proofs.Going.{gives_refusal, items_step, items_fail, items_over}
+use Rattle.c_reader.proofs.StatementLoops.{gives_residual, goes_added, goes_fails, goes_over}
 use Rattle.c_reader.proofs.reader.Reader.items.Goals as goal
 
 pub returns-in_err-item-2-clause-read : goal.returns-in_err-item-2-clause-read
@@ -16,8 +16,8 @@ returns-in_err-item-2-clause-read c =
     let item = item_at (block_with objects_at c.args.limit) c.args.limit in
     let start = items_at (block_with objects_at c.args.limit) c.args.limit (left c.args.self.now) in
     let none : same_symbol (ahead i) symbol.End ≡ false = cc (c.is.ensures, c.ahead.ensures, c.loop-alloc-test.true) in
-    let bad = items_fail item start c.in_err-item-2.field-0.0 c.loop-alloc.items i c.loop-alloc.invariant.0 none c.in_err-item-2.ensures.read in
-    gives_refusal (λ x. x) c.from_residual-in_err-item-2.result c.in_err-item-2.field-0.0 (left c.item-in-loop-alloc.new.self) start c.from_residual-in_err-item-2.ensures.1 bad
+    let bad = goes_fails before_end item start c.in_err-item-2.field-0.0 c.loop-alloc.items i c.loop-alloc.invariant.0 (ap not none) c.in_err-item-2.ensures.read in
+    gives_residual (λ x. x) c.from_residual-in_err-item-2.result c.in_err-item-2.field-0.0 (left c.item-in-loop-alloc.new.self) start c.from_residual-in_err-item-2.ensures.1 bad
 
 pub loop-alloc-preserved : goal.loop-alloc-preserved
 loop-alloc-preserved c =
@@ -25,8 +25,8 @@ loop-alloc-preserved c =
     let item = item_at (block_with objects_at c.args.limit) c.args.limit in
     let start = items_at (block_with objects_at c.args.limit) c.args.limit (left c.args.self.now) in
     let none : same_symbol (ahead i) symbol.End ≡ false = cc (c.is.ensures, c.ahead.ensures, c.loop-alloc-test.true) in (
-      items_step item start c.loop-alloc.items i c.in_ok-item-2.field-0 (left c.item-in-loop-alloc.new.self) c.push-in-loop-alloc.new.self c.loop-alloc.invariant.0
-          none c.in_ok-item-2.ensures.read c.in_ok-item-2.ensures.shrinks c.in_ok-push-2.ensures.ok,
+      goes_added before_end item start c.loop-alloc.items i c.in_ok-item-2.field-0 (left c.item-in-loop-alloc.new.self) c.push-in-loop-alloc.new.self c.loop-alloc.invariant.0
+          (ap not none) c.in_ok-item-2.ensures.read c.in_ok-item-2.ensures.shrinks c.in_ok-push-2.ensures.ok,
       omega (arith, c.in_ok-item-2.ensures.shrinks),
     )
 
@@ -36,4 +36,4 @@ returns-clause-read c =
     let item = item_at (block_with objects_at c.args.limit) c.args.limit in
     let start = items_at (block_with objects_at c.args.limit) c.args.limit (left c.args.self.now) in
     let end : same_symbol (ahead i) symbol.End ≡ true = cc (c.is.ensures, c.ahead.ensures, c.loop-alloc-test.false) in
-    items_over item start c.loop-alloc.items i c.loop-alloc.invariant.0 end
+    goes_over before_end item start c.loop-alloc.items i c.loop-alloc.invariant.0 (ap not end)

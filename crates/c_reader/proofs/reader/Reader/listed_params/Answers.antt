@@ -3,7 +3,7 @@ use Rattle.std.proofs.Common.{length, refl, sym, ◌∙◌, ap, arith}
 use Rattle.c_reader.specs.declared.symbol.Symbol.TheVariants as symbol
 use Rattle.c_reader.specs.Gives.{left}
 use Rattle.c_reader.specs.ReadSource.{param_at, listed_params_at}
-use Rattle.c_reader.proofs.Going.{rest_passed, rest_kept, shorter_rest, gives_refusal, listed_step, listed_fails, listed_ended}
+use Rattle.c_reader.proofs.StatementLoops.{rest_passed, rest_kept, shorter_rest, gives_residual, listed_step, listed_fails, listed_ended}
 use Rattle.c_reader.proofs.reader.Reader.listed_params.Goals as goal
 
 pub returns-in_err-param-2-clause-read : goal.returns-in_err-param-2-clause-read
@@ -14,7 +14,7 @@ returns-in_err-param-2-clause-read c =
     let start = listed_params_at c.args.limit (left c.args.self.now) in
     let is = rest_passed c.pass_if.result i k c.pass_if.ensures.rest c.loop-alloc-test.true in
     let bad = listed_fails item start c.in_err-param-2.field-0.0 c.loop-alloc.params i k c.loop-alloc.invariant.0 (sym c.pass_if.ensures.value ∙ c.loop-alloc-test.true) is c.in_err-param-2.ensures.read in
-    gives_refusal (λ x. x) c.from_residual-in_err-param-2.result c.in_err-param-2.field-0.0 (left c.param-in-loop-alloc.new.self) start c.from_residual-in_err-param-2.ensures.1 bad
+    gives_residual (λ x. x) c.from_residual-in_err-param-2.result c.in_err-param-2.field-0.0 (left c.param-in-loop-alloc.new.self) start c.from_residual-in_err-param-2.ensures.1 bad
 
 pub loop-alloc-preserved : goal.loop-alloc-preserved
 loop-alloc-preserved c =

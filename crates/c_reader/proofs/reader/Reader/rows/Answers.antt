@@ -5,7 +5,8 @@ use Rattle.c_reader.specs.Gives.{left}
 use Rattle.c_reader.specs.ReadDeclarations.{rows_at, row_at}
 use Rattle.c_reader.specs.Stream.{ahead}
 use Rattle.c_reader.specs.Symbols.{same_symbol}
-use Rattle.c_reader.proofs.Going.{braced_from, rest_passed, rest_kept, shorter_rest, gives_refusal, braced_step, braced_fails, braced_ended, braced_last, braced_closed, braced_unclosed, braced_refused}
+use Rattle.c_reader.proofs.Going.{braced_from, braced_step, braced_fails, braced_ended, braced_last, braced_closed, braced_unclosed, braced_refused}
+use Rattle.c_reader.proofs.StatementLoops.{rest_passed, rest_kept, shorter_rest, gives_residual}
 use Rattle.c_reader.proofs.reader.Reader.rows.Goals as goal
 use Rattle.c_reader.proofs.reader.Reader.rows.Goals.{then-loop-self-test+else-not-is, else-loop-self-test}
 
@@ -19,7 +20,7 @@ returns-in_err-row-2-clause-read c =
     let is = rest_passed c.pass_if.result i k c.pass_if.ensures.rest c.loop-self-test.true in
     let none : same_symbol (ahead k) symbol.CloseBrace ≡ false = cc (c.is.ensures, c.ahead.ensures, c.if-not-is.true) in
     let bad = braced_fails item (braced_from item start) c.in_err-row-2.field-0.0 c.loop-self.rows i k c.loop-self.invariant.0 (sym c.pass_if.ensures.value ∙ c.loop-self-test.true) is none c.in_err-row-2.ensures.read in
-    gives_refusal (λ x. x) c.from_residual-in_err-row-2.result c.in_err-row-2.field-0.0 (left c.row-in-loop-self.new.self) (rows_at c.args.limit start) c.from_residual-in_err-row-2.ensures.1
+    gives_residual (λ x. x) c.from_residual-in_err-row-2.result c.in_err-row-2.field-0.0 (left c.row-in-loop-self.new.self) (rows_at c.args.limit start) c.from_residual-in_err-row-2.ensures.1
     (braced_refused item start c.in_err-row-2.field-0.0 bad)
 
 pub loop-self-preserved : goal.loop-self-preserved
@@ -50,7 +51,7 @@ returns-in_err-take-clause-read c =
           (let close : same_symbol (ahead k) symbol.CloseBrace ≡ true = cc (w.is.ensures, w.ahead.ensures, w.if-not-is.false) in close)
       | else-loop-self-test w ↦ braced_ended item (braced_from item start) xs i k c.loop-self.invariant.0 (sym c.pass_if.ensures.value ∙ w.loop-self-test.false) (rest_kept c.pass_if.result i k c.pass_if.ensures.rest w.loop-self-test.false)
     ] in
-    gives_refusal (λ x. x) c.from_residual-in_err-take.result c.in_err-take.field-0.0 (left c.take.new.self) (rows_at c.args.limit start) c.from_residual-in_err-take.ensures.1
+    gives_residual (λ x. x) c.from_residual-in_err-take.result c.in_err-take.field-0.0 (left c.take.new.self) (rows_at c.args.limit start) c.from_residual-in_err-take.ensures.1
     (braced_unclosed item start c.in_err-take.field-0.0 xs k done c.in_err-take.ensures.read)
 
 pub returns-clause-read : goal.returns-clause-read

@@ -2,7 +2,8 @@
 use Rattle.std.proofs.Common.{◌≤◌, length}
 use Rattle.c_reader.specs.declared.symbol.Symbol.TheVariants as symbol
 use Rattle.c_reader.specs.Gives.{left}
-use Rattle.c_reader.specs.ReadStatements.{after, is_comma, simple_at, simples_at}
+use Rattle.c_reader.specs.Lists.{after, is_comma}
+use Rattle.c_reader.specs.ReadStatements.{simple_at, simples_at}
 use Rattle.c_reader.proofs.StatementLoops.{Goes}
 use Rattle.c_reader.proofs.reader.Reader.simples.Given as goal
 
