@@ -101,17 +101,17 @@ in_rounded_count w changes clip v lo c hi low high le le' h = inl (downward chan
 
 -- ---- sums of products
 
-product_left : (b : ℤ) → Steady (λ (a : ℤ). product_of a b)
+pub product_left : (b : ℤ) → Steady (λ (a : ℤ). product_of a b)
 product_left b = then_up (λ (x : ℤ). pos 2 *ℤ x) (λ (a : ℤ). a *ℤ b) twice_up (times_steady b)
 
-product_right : (a : ℤ) → Steady (λ (b : ℤ). product_of a b)
+pub product_right : (a : ℤ) → Steady (λ (b : ℤ). product_of a b)
 product_right a = then_up (λ (x : ℤ). pos 2 *ℤ x) (λ (b : ℤ). a *ℤ b) twice_up (timed_steady a)
 
 -- the sum after the clip of the product, before its own
-sum_with : (x : ℤ) (f : ℤ → ℤ) → Steady f → Steady (λ (a : ℤ). x +ℤ clip32 (f a))
+pub sum_with : (x : ℤ) (f : ℤ → ℤ) → Steady f → Steady (λ (a : ℤ). x +ℤ clip32 (f a))
 sum_with x f steady = then_up (λ (p : ℤ). x +ℤ p) (λ (a : ℤ). clip32 (f a)) (added_up x) (then_up clip32 f clip32_up steady)
 
-difference_with : (x : ℤ) (f : ℤ → ℤ) → Steady f → Steady (λ (a : ℤ). x -ℤ clip32 (f a))
+pub difference_with : (x : ℤ) (f : ℤ → ℤ) → Steady f → Steady (λ (a : ℤ). x -ℤ clip32 (f a))
 difference_with x f steady = then_down (λ (p : ℤ). x -ℤ p) (λ (a : ℤ). clip32 (f a)) (subtracted_down x) (then_up clip32 f clip32_up steady)
 
 -- the clip of a product f, and of what is made of it

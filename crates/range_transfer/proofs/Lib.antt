@@ -5,6 +5,7 @@ pub mod Extremes
 pub mod Powers
 pub mod Least
 pub mod Operands
+pub mod Ops
 pub mod Reach
 pub mod Steady
 pub mod Stops

@@ -1,16 +1,20 @@
 -- The numbers of a site on a box lie between its numbers at corners.
-use Rattle.std.proofs.Common.{◌≡◌, ℤ, pos, negsuc, ◌≤ℤ◌, ◌↔◌, List, [], ◌∷◌, subst, arith}
+use Rattle.std.proofs.Common.{◌≡◌, ℤ, pos, negsuc, ◌≤ℤ◌, ◌↔◌, FitsSigned, w32, w64, to_z, of_z, List, [], ◌∷◌, Option, Some, unwrap_or, subst, ap, ◌∙◌, arith}
 use Rattle.std.specs.Int.{int_min, int_max}
 use Rattle.std.proofs.lemmas.Int.{ints, clamps}
 use Rattle.sat_base.specs.declared.width.Width.{Width}
-use Rattle.sat_base.specs.declared.width.Width.TheVariants.{W32}
-use Rattle.operator_meaning.specs.Table.{FitsWidth}
+use Rattle.sat_base.specs.declared.width.Width.TheVariants.{W16, W32}
+use Rattle.operator_meaning.specs.Table.{row_of, FitsWidth}
+use Rattle.operator_meaning.specs.Value.{value_of}
+use Rattle.operator_meaning.specs.declared.operator.Op.{Op}
 use Rattle.operator_meaning.specs.declared.site.SiteKind.{SiteKind}
 use Rattle.operator_meaning.specs.declared.site.SiteKind.TheVariants.{Call, Sum, Difference, Product, Opposite, Bound, ViewBound, ViewEdge, Sample}
 use Rattle.range_core.specs.declared.range.Range.{Range}
 use Rattle.range_core.specs.declared.range.Range.TheVariants.{Empty, Span}
+use Rattle.range_core.specs.Range.{IsLeast, IsRange}
+use Rattle.range_transfer.proofs.Least.{least_from_ends}
 use Rattle.range_transfer.specs.Box.{FitRanges, IsInBox, corners, HasEmpty}
-use Rattle.range_transfer.specs.Image.{AreExtremes, LiesBetween}
+use Rattle.range_transfer.specs.Image.{AreExtremes, LiesBetween, IsValueOn}
 use Rattle.range_transfer.specs.Site.{widths_of, IsPlain, GivesNumber, number_of}
 use Rattle.range_transfer.proofs.Reach.{ReachesEnds, reached, corner_in_box, one, two, three, by_steady}
 use Rattle.range_transfer.proofs.Steady.{Steady, Rises, Falls, add_up, added_up, sub_up, subtracted_down, neg_down, times_steady, timed_steady, at_most_outer, at_least_outer}
@@ -111,3 +115,32 @@ lies_between kind ranges least most lo hi x bounds low high = (
       let (fits, (args, in', le), (args', in'', le')) = h in
       (omega (arith, ints, clamps, fits, low, le, (bounds.between args in').0), omega (arith, ints, clamps, fits, high, le', (bounds.between args' in'').1)),
 )
+
+-- the range between the extremes is the least with the operator's values
+pub least_of_bounds : (op : Op) (ranges : List Range) (least most : ℤ) → ((args : List ℤ) → IsInBox args ranges → value_of op args ≡ Some (number_of (Call op) args)) → Bounds (number_of (Call op)) ranges least most
+    → IsLeast (IsValueOn op ranges) (Span least most)
+least_of_bounds op ranges least most valued bounds =
+    least_from_ends (IsValueOn op ranges) least most
+    (λ x (args, in', e).
+    let same : number_of (Call op) args ≡ x = ap (λ (o : Option ℤ). unwrap_or o (pos 0)) e in
+    let between = bounds.between args in' in
+    (omega (arith, ints, between.0, same), omega (arith, ints, between.1, same)))
+    (let (args, in', e) = bounds.low in (args, in', valued args in' ∙ ap Some e))
+    (let (args, in', e) = bounds.high in (args, in', valued args in' ∙ ap Some e))
+
+fits_32 : (width : Width) (x : ℤ) → FitsWidth width x → FitsSigned w32 x
+fits_32 W16 x fits = omega (arith, ints, fits)
+fits_32 W32 x fits = fits
+
+pub range_of_bounds : (op : Op) (ranges : List Range) (least most : ℤ) → ((args : List ℤ) → IsInBox args ranges → FitsWidth (row_of op).gives (number_of (Call op) args)) → Bounds (number_of (Call op)) ranges least most → IsRange (Span least most)
+range_of_bounds op ranges least most fits bounds =
+    let (args, in', e) = bounds.low in
+    let (args', in'', e') = bounds.high in
+    let between = bounds.between args in' in
+    let low = fits_32 (row_of op).gives _ (fits args in') in
+    let high = fits_32 (row_of op).gives _ (fits args' in'') in
+    (omega (arith, ints, e, between.1), subst (FitsSigned w32) e low, subst (FitsSigned w32) e' high)
+
+-- an end as it is read
+pub read_end : (x : ℤ) → FitsSigned w32 x → to_z w64 (of_z w64 x) ≡ x
+read_end x fits = omega (arith, ints, fits)

@@ -7,6 +7,8 @@ use Rattle.sat_base.specs.declared.width.Width.TheVariants.{W32}
 use Rattle.operator_meaning.specs.Clipping.{Clips}
 use Rattle.operator_meaning.specs.Table.{row_of}
 use Rattle.operator_meaning.specs.Value.{value_of, IsInvalid}
+use Rattle.operator_meaning.specs.declared.operator.Op.{Op}
+use Rattle.operator_meaning.specs.declared.operator.Op.TheVariants.{AbsS, LAbs, ExtractL, NormS, NormL, DivS}
 use Rattle.operator_meaning.specs.declared.site.SiteKind.{SiteKind}
 use Rattle.operator_meaning.specs.declared.site.SiteKind.TheVariants.{Call, Sum, Difference, Product, Opposite, Bound, ViewBound, ViewEdge, Sample}
 use Rattle.range_transfer.specs.declared.question.Question.{Question}
@@ -73,3 +75,13 @@ Answers (DoesStop kind) args = Stops kind args
 abbrev pub kind_of : Question → SiteKind
 kind_of (DoesClip op) = Call op
 kind_of (DoesStop kind) = kind
+
+-- the operators whose least and greatest values are at corners
+abbrev pub IsCornered : Op → Type 0
+IsCornered AbsS = ⊥
+IsCornered LAbs = ⊥
+IsCornered ExtractL = ⊥
+IsCornered NormS = ⊥
+IsCornered NormL = ⊥
+IsCornered DivS = ⊥
+IsCornered op = Unit {0}

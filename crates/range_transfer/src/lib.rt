@@ -4,6 +4,7 @@
 
 pub mod bits;
 pub mod corner;
+mod cornered;
 mod first;
 mod hull;
 mod plain;
@@ -12,6 +13,7 @@ pub mod relation;
 
 pub use bits::{BitMark, image_bits};
 pub use corner::Corner;
+pub use cornered::image_at_corners;
 pub use first::{saturating_corner, stopping_corner};
 pub use plain::image_plain;
 pub use relation::{Rel, refine_false, refine_true};
