@@ -1,10 +1,13 @@
 -- The calls whose names are in scope everywhere, with what they take and give.
-use Rattle.std.specs.Prelude.{◌≡◌, ℕ, ◌⊎◌, if◌then◌else◌, List, [], ◌∷◌, Option, Some, None, codes}
+use Rattle.std.specs.Prelude.{ℕ, if◌then◌else◌, List, [], ◌∷◌, Option, Some, None, codes}
+use Rattle.std.specs.List.{find}
 use Rattle.std.specs.Str.{bytes_eq}
 use Rattle.sat_base.specs.declared.width.Width.{Width}
 use Rattle.sat_base.specs.declared.width.Width.TheVariants.{W16, W32}
 use Rattle.operator_meaning.specs.declared.operator.Op.{Op}
-use Rattle.operator_meaning.specs.Table.{row_of, IsNameOf, IsNoName}
+use Rattle.operator_meaning.specs.declared.operator.Op.TheVariants.{Round}
+use Rattle.operator_meaning.specs.declared.operator.TheConstants.{OPERATORS}
+use Rattle.operator_meaning.specs.Table.{row_of}
 use Rattle.c_typed.specs.declared.call.Callee.{Callee}
 use Rattle.c_typed.specs.declared.call.Callee.TheVariants.{Function, Operator, Move16, Move32, Logic16, Logic32, Test, SampleIn, SampleLeft, SampleOut}
 
@@ -21,12 +24,18 @@ other_call name =
     else (if bytes_eq name (codes "sample_out") then Some SampleOut
     else None)))))))
 
--- the name is that of a call that is no operator, or of this operator
-abbrev pub IsPredefined : List ℕ → Callee → Type 0
-IsPredefined name callee = (other_call name ≡ Some callee) ⊎ ((op : Op) × (callee ≡ Operator op) × IsNameOf name op)
+-- the operator of this name, by the table; `round` has the name `round_fx` besides
+unfoldable pub operator_of : List ℕ → Option Op
+operator_of name = if bytes_eq name (codes "round_fx") then Some Round else find (λ op. bytes_eq name (row_of op).name) OPERATORS
 
-abbrev pub IsNotPredefined : List ℕ → Type 0
-IsNotPredefined name = (other_call name ≡ None) × IsNoName name
+abbrev pub other_or : Option Callee → Option Op → Option Callee
+other_or (Some callee) op = Some callee
+other_or None None = None
+other_or None (Some op) = Some (Operator op)
+
+-- what is called by the name, where it is predefined
+abbrev pub callee_of : List ℕ → Option Callee
+callee_of name = other_or (other_call name) (operator_of name)
 
 -- the width of the number that is given, and none where nothing is
 abbrev pub gives_of : Callee → Option Width

@@ -1,8 +1,8 @@
 // The predefined calls by their names, with what they take and give.
 
-ghost use Rattle.std.specs.Prelude.{◌≡◌, ◌<◌, length, MatchOption};
-ghost use Rattle.operator_meaning.specs.Table.{IsNameOf, IsNoName, width_at};
-ghost use Rattle.predefined_calls.specs.Calls.{other_call, gives_of, takes_of, IsPredefined, IsNotPredefined};
+ghost use Rattle.std.specs.Prelude.{◌≡◌, ◌<◌, length};
+ghost use Rattle.operator_meaning.specs.Table.{width_at};
+ghost use Rattle.predefined_calls.specs.Calls.{other_call, operator_of, callee_of, gives_of, takes_of};
 
 use c_typed::Callee;
 use operator_meaning::{Op, of_name};
@@ -36,7 +36,7 @@ fn other_call(name: &[u8]) -> Option<Callee>
 
 /// The operator of this name.
 fn operator(name: &[u8]) -> Option<Op>
-    ensures { MatchOption result (IsNoName name.now) (IsNameOf name.now) }
+    ensures { result ≡ operator_of name.now }
 {
     match str::from_utf8(name) {
         Ok(text) => of_name(text),
@@ -46,7 +46,7 @@ fn operator(name: &[u8]) -> Option<Op>
 
 /// What is called by a predefined name; none where the name is not predefined.
 pub fn callee_named(name: &[u8]) -> Option<Callee>
-    ensures { MatchOption result (IsNotPredefined name.now) (IsPredefined name.now) }
+    ensures { result ≡ callee_of name.now }
 {
     if let Some(callee) = other_call(name) {
         return Some(callee);
