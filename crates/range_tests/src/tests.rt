@@ -1,9 +1,10 @@
 use crate::ends::ROWS;
 use crate::fitting::operands_fit;
+use crate::images::IMAGES;
 use operator_meaning::{Op, SiteKind};
 use range_core::{Range, contains, join, meet, thresholds};
 use range_transfer::{
-    BitMark, Corner, Rel, image_at_corners, image_bits, image_plain, refine_false, refine_true,
+    BitMark, Corner, Rel, image, image_bits, image_plain, refine_false, refine_true,
     saturating_corner, stopping_corner,
 };
 use std::test::Fail;
@@ -206,53 +207,59 @@ fn refines_by_relations(rt: HostRuntime) {
 }
 
 #[test]
+fn has_the_least_range_inside(rt: HostRuntime) {
+    for row in &IMAGES {
+        let op = row.op;
+        assert!(rt; operands_fit(op, row.operands));
+        assert_eq!(rt; image(op, row.operands), row.image, "of {op:?}");
+    }
+}
+
+#[test]
 fn has_the_least_range_of_values(rt: HostRuntime) {
     assert_eq!(rt;
-        image_at_corners(Op::Add, &[span!(30_000, 32_767), span!(1, 10)]),
+        image(Op::Add, &[span!(30_000, 32_767), span!(1, 10)]),
         span!(30_001, 32_767)
     );
     assert_eq!(rt;
-        image_at_corners(Op::Mult, &[span!(-32_768, 5), span!(-32_768, 3)]),
+        image(Op::Mult, &[span!(-32_768, 5), span!(-32_768, 3)]),
         span!(-5, 32_767)
     );
+    assert_eq!(rt; image(Op::Add, &[Range::Empty, span!(1, 10)]), Range::Empty);
     assert_eq!(rt;
-        image_at_corners(Op::Add, &[Range::Empty, span!(1, 10)]),
-        Range::Empty
-    );
-    assert_eq!(rt;
-        image_at_corners(Op::Add, &[span!(-32_768, 32_767), span!(-32_768, 32_767)]),
+        image(Op::Add, &[span!(-32_768, 32_767), span!(-32_768, 32_767)]),
         span!(-32_768, 32_767)
     );
     assert_eq!(rt;
-        image_at_corners(Op::Add, &[span!(-32_768, -32_767), span!(32_766, 32_767)]),
+        image(Op::Add, &[span!(-32_768, -32_767), span!(32_766, 32_767)]),
         span!(-2, 0)
     );
     assert_eq!(rt;
-        image_at_corners(Op::Sub, &[span!(-32_768, 32_767), span!(-32_768, 32_767)]),
+        image(Op::Sub, &[span!(-32_768, 32_767), span!(-32_768, 32_767)]),
         span!(-32_768, 32_767)
     );
     assert_eq!(rt;
-        image_at_corners(Op::Sub, &[span!(-32_768, -32_767), span!(32_766, 32_767)]),
+        image(Op::Sub, &[span!(-32_768, -32_767), span!(32_766, 32_767)]),
         span!(-32_768, -32_768)
     );
     assert_eq!(rt;
-        image_at_corners(Op::Shl, &[span!(-32_768, 32_767), span!(-32_768, 32_767)]),
+        image(Op::Shl, &[span!(-32_768, 32_767), span!(-32_768, 32_767)]),
         span!(-32_768, 32_767)
     );
     assert_eq!(rt;
-        image_at_corners(Op::Shl, &[span!(-32_768, -32_767), span!(32_766, 32_767)]),
+        image(Op::Shl, &[span!(-32_768, -32_767), span!(32_766, 32_767)]),
         span!(-32_768, -32_768)
     );
     assert_eq!(rt;
-        image_at_corners(Op::Mult, &[span!(-32_768, 32_767), span!(-32_768, 32_767)]),
+        image(Op::Mult, &[span!(-32_768, 32_767), span!(-32_768, 32_767)]),
         span!(-32_767, 32_767)
     );
     assert_eq!(rt;
-        image_at_corners(Op::Mult, &[span!(-32_768, -32_767), span!(32_766, 32_767)]),
+        image(Op::Mult, &[span!(-32_768, -32_767), span!(32_766, 32_767)]),
         span!(-32_767, -32_766)
     );
     assert_eq!(rt;
-        image_at_corners(
+        image(
             Op::LMac,
             &[
                 span!(-2_147_483_648, 2_147_483_647),
@@ -263,7 +270,7 @@ fn has_the_least_range_of_values(rt: HostRuntime) {
         span!(-2_147_483_648, 2_147_483_647)
     );
     assert_eq!(rt;
-        image_at_corners(
+        image(
             Op::LMac,
             &[
                 span!(-2_147_483_648, -2_147_483_647),
@@ -274,7 +281,7 @@ fn has_the_least_range_of_values(rt: HostRuntime) {
         span!(-2_147_483_648, -2_147_483_648)
     );
     assert_eq!(rt;
-        image_at_corners(
+        image(
             Op::MsuR,
             &[
                 span!(-2_147_483_648, 2_147_483_647),
@@ -285,7 +292,7 @@ fn has_the_least_range_of_values(rt: HostRuntime) {
         span!(-32_768, 32_767)
     );
     assert_eq!(rt;
-        image_at_corners(
+        image(
             Op::MsuR,
             &[
                 span!(-2_147_483_648, -2_147_483_647),
@@ -296,25 +303,25 @@ fn has_the_least_range_of_values(rt: HostRuntime) {
         span!(-3, -1)
     );
     assert_eq!(rt;
-        image_at_corners(
+        image(
             Op::LShr,
             &[span!(-2_147_483_648, 2_147_483_647), span!(-32_768, 32_767)]
         ),
         span!(-2_147_483_648, 2_147_483_647)
     );
     assert_eq!(rt;
-        image_at_corners(
+        image(
             Op::LShr,
             &[span!(-2_147_483_648, -2_147_483_647), span!(32_766, 32_767)]
         ),
         span!(-1, -1)
     );
     assert_eq!(rt;
-        image_at_corners(Op::ShrR, &[span!(-32_768, 32_767), span!(-32_768, 32_767)]),
+        image(Op::ShrR, &[span!(-32_768, 32_767), span!(-32_768, 32_767)]),
         span!(-32_768, 32_767)
     );
     assert_eq!(rt;
-        image_at_corners(Op::ShrR, &[span!(-32_768, -32_767), span!(32_766, 32_767)]),
+        image(Op::ShrR, &[span!(-32_768, -32_767), span!(32_766, 32_767)]),
         span!(0, 0)
     );
 }

@@ -1,4 +1,6 @@
 pub mod Clips
+pub mod Division
+pub mod Low
 pub mod Numbers
 pub mod Order
 pub mod Extremes
@@ -6,6 +8,10 @@ pub mod Powers
 pub mod Least
 pub mod Operands
 pub mod Ops
+pub mod Parts
+pub mod Quotients
 pub mod Reach
+pub mod Runs
+pub mod Signs
 pub mod Steady
 pub mod Stops

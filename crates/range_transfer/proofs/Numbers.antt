@@ -14,7 +14,7 @@ use Rattle.range_core.specs.declared.range.Range.TheVariants.{Empty, Span}
 use Rattle.range_core.specs.Range.{IsLeast, IsRange}
 use Rattle.range_transfer.proofs.Least.{least_from_ends}
 use Rattle.range_transfer.specs.Box.{FitRanges, IsInBox, corners, HasEmpty}
-use Rattle.range_transfer.specs.Image.{AreExtremes, LiesBetween, IsValueOn}
+use Rattle.range_transfer.specs.Image.{AreExtremes, LiesBetween, IsValueOn, IsBetweenCorners}
 use Rattle.range_transfer.specs.Site.{widths_of, IsPlain, GivesNumber, number_of}
 use Rattle.range_transfer.proofs.Reach.{ReachesEnds, reached, corner_in_box, one, two, three, by_steady}
 use Rattle.range_transfer.proofs.Steady.{Steady, Rises, Falls, add_up, added_up, sub_up, subtracted_down, neg_down, times_steady, timed_steady, at_most_outer, at_least_outer}
@@ -88,20 +88,27 @@ pub record Bounds (f : List ℤ → ℤ) (ranges : List Range) (least most : ℤ
   pub high : (args : List ℤ) × IsInBox args ranges × (f args ≡ most)
   pub between : (args : List ℤ) → IsInBox args ranges → (least ≤ℤ f args) × (f args ≤ℤ most)
 
-bounds_at : (widths : List Width) (f : List ℤ → ℤ) (ranges : List Range) (least most : ℤ) → IsSteady widths f → FitRanges widths ranges → AreExtremes f (corners [] ranges) least most → Bounds f ranges least most
-bounds_at widths f ranges least most steady fit extremes = record {
-  low = let (corner, there, e) = extremes.low in let (args, in', is) = corner_in_box widths [] ranges corner fit there in (args, in', subst (λ (c : List ℤ). f c ≡ least) is e);
-  high = let (corner, there, e) = extremes.high in let (args, in', is) = corner_in_box widths [] ranges corner fit there in (args, in', subst (λ (c : List ℤ). f c ≡ most) is e);
-  between = λ args in'.
-      let (below, there, under) = reached widths (λ (xs : List ℤ). f xs ≤ℤ f args) ranges args (steady.falls (f args)) fit in' (omega (arith, ints)) in
-      let (above, there', over) = reached widths (λ (xs : List ℤ). f args ≤ℤ f xs) ranges args (steady.rises (f args)) fit in' (omega (arith, ints)) in
-      (omega (arith, ints, under, (extremes.between below there).0), omega (arith, ints, over, (extremes.between above there').1));
-}
+pub bounds_between : (widths : List Width) (f : List ℤ → ℤ) (given : List ℤ) (ranges : List Range) (least most : ℤ) → IsBetweenCorners f ranges → FitRanges widths ranges → given ≡ []
+    → AreExtremes f (corners given ranges) least most → Bounds f ranges least most
+bounds_between widths f given ranges least most inside fit start found =
+    let extremes = subst (λ (g : List ℤ). AreExtremes f (corners g ranges) least most) start found in
+    record {
+      low = let (corner, there, e) = extremes.low in let (args, in', is) = corner_in_box widths [] ranges corner fit there in (args, in', subst (λ (c : List ℤ). f c ≡ least) is e);
+      high = let (corner, there, e) = extremes.high in let (args, in', is) = corner_in_box widths [] ranges corner fit there in (args, in', subst (λ (c : List ℤ). f c ≡ most) is e);
+      between = λ args in'.
+          let ((below, there, under), (above, there', over)) = inside args in' in
+          (omega (arith, ints, under, (extremes.between below there).0), omega (arith, ints, over, (extremes.between above there').1));
+    }
+
+pub steady_between : (widths : List Width) (f : List ℤ → ℤ) (ranges : List Range) → IsSteady widths f → FitRanges widths ranges → IsBetweenCorners f ranges
+steady_between widths f ranges steady fit args in' = (
+  reached widths (λ (xs : List ℤ). f xs ≤ℤ f args) ranges args (steady.falls (f args)) fit in' (omega (arith, ints)),
+  reached widths (λ (xs : List ℤ). f args ≤ℤ f xs) ranges args (steady.rises (f args)) fit in' (omega (arith, ints)),
+)
 
 pub bounds_of : (widths : List Width) (f : List ℤ → ℤ) (given : List ℤ) (ranges : List Range) (least most : ℤ) → IsSteady widths f → FitRanges widths ranges → given ≡ []
     → AreExtremes f (corners given ranges) least most → Bounds f ranges least most
-bounds_of widths f given ranges least most steady fit start extremes =
-    bounds_at widths f ranges least most steady fit (subst (λ (g : List ℤ). AreExtremes f (corners g ranges) least most) start extremes)
+bounds_of widths f given ranges least most steady fit = bounds_between widths f given ranges least most (steady_between widths f ranges steady fit) fit
 
 -- the numbers of 32 bits between the extremes
 pub lies_between : (kind : SiteKind) (ranges : List Range) (least most lo hi x : ℤ) → Bounds (number_of kind) ranges least most → lo ≡ int_max least (negsuc 2147483647) → hi ≡ int_min most (pos 2147483647)

@@ -1,5 +1,5 @@
 -- Most operators only rise or only fall in each operand, whatever the others are.
-use Rattle.std.proofs.Common.{◌≡◌, ℕ, zero, suc, ◌+◌, ◌*◌, ◌/◌, ◌^◌, ◌<◌, ◌≤◌, ℤ, pos, negsuc, ◌+ℤ◌, ◌-ℤ◌, ◌*ℤ◌, ◌≤ℤ◌, ◌<ℤ◌, neg_ℤ, FitsSigned, w16, w32, List, [], ◌∷◌, Some, unwrap_or, refl, subst, ap, arith, pow_pos, pow_mono}
+use Rattle.std.proofs.Common.{◌≡◌, ℕ, zero, suc, ◌+◌, ◌*◌, ◌/◌, ◌^◌, ◌<◌, ◌≤◌, ℤ, pos, negsuc, ◌+ℤ◌, ◌-ℤ◌, ◌*ℤ◌, ◌≤ℤ◌, ◌<ℤ◌, neg_ℤ, FitsSigned, w16, w32, List, [], ◌∷◌, Some, unwrap_or, refl, ap, arith, pow_pos, pow_mono}
 use Rattle.std.proofs.Math.Nat.{div-le_self, div-mul-le_self}
 use Rattle.std.proofs.lemmas.Nat.{mul-le, le-div}
 use Rattle.std.proofs.lemmas.Int.{ints, clamps, by_lt_z}
@@ -12,7 +12,7 @@ use Rattle.operator_meaning.specs.Value.{floor, shifted, shifted_back, product_o
 use Rattle.operator_meaning.specs.declared.operator.Op.{Op}
 use Rattle.operator_meaning.specs.declared.operator.Op.TheVariants.{Add, Sub, AbsS, Shl, Shr, ExtractH, ExtractL, Mult, LMult, Negate, Round, LMac, LMsu, MacR, MsuR, LAdd, LSub, LNegate, MultR, LShl, LShr, ShrR, LShrR, LAbs, LDepositH, LDepositL, NormS, NormL, DivS}
 use Rattle.operator_meaning.specs.declared.site.SiteKind.TheVariants.{Call}
-use Rattle.range_transfer.specs.Site.{number_of, IsCornered}
+use Rattle.range_transfer.specs.Site.{number_of}
 use Rattle.range_transfer.proofs.Clips.{product_left, product_right, sum_with, difference_with, rounded_product}
 use Rattle.range_transfer.proofs.Numbers.{IsSteady, one_steady, two_steady, three_steady}
 use Rattle.range_transfer.proofs.Steady.{Up, Down, Steady, Rises, Falls, then_up, after_down, up_up, same_up, add_up, added_up, sub_up, subtracted_down, neg_down, clip16_up, clip32_up, floor_up, times_up, times_steady, timed_steady, rounded_up}
@@ -182,6 +182,26 @@ difference_second x b = then32 (λ (a : ℤ). x -ℤ clip32 (product_of a b)) (d
 difference_third : (x a : ℤ) → Steady (λ (b : ℤ). reduced x a b)
 difference_third x a = then32 (λ (b : ℤ). x -ℤ clip32 (product_of a b)) (difference_with x (λ (b : ℤ). product_of a b) (product_right a))
 
+-- the operators whose least and greatest values are at corners
+abbrev pub IsCornered : Op → Type 0
+IsCornered AbsS = ⊥
+IsCornered LAbs = ⊥
+IsCornered ExtractL = ⊥
+IsCornered NormS = ⊥
+IsCornered NormL = ⊥
+IsCornered DivS = ⊥
+IsCornered op = Unit {0}
+
+-- which are all others
+pub is_cornered : (op : Op) → (op ≡ AbsS → ⊥) → (op ≡ LAbs → ⊥) → (op ≡ ExtractL → ⊥) → (op ≡ NormS → ⊥) → (op ≡ NormL → ⊥) → (op ≡ DivS → ⊥) → IsCornered op
+is_cornered AbsS a b c d e f = a refl
+is_cornered LAbs a b c d e f = b refl
+is_cornered ExtractL a b c d e f = c refl
+is_cornered NormS a b c d e f = d refl
+is_cornered NormL a b c d e f = e refl
+is_cornered DivS a b c d e f = f refl
+is_cornered op a b c d e f = tt
+
 pub op_steady : ShiftsRound → (op : Op) → IsCornered op → IsSteady (row_of op).takes (number_of (Call op))
 op_steady law Add h = two_steady W16 W16 (number_of (Call Add)) (λ y f. then16 (λ (x : ℤ). x +ℤ y) (Rises (add_up y))) (λ x f. then16 (λ (y : ℤ). x +ℤ y) (Rises (added_up x)))
 op_steady law Sub h = two_steady W16 W16 (number_of (Call Sub)) (λ y f. then16 (λ (x : ℤ). x -ℤ y) (Rises (sub_up y))) (λ x f. then16 (λ (y : ℤ). x -ℤ y) (Falls (subtracted_down x)))
@@ -265,6 +285,3 @@ valued LDepositL h args fits = at_one (λ (l : List ℤ). value_of LDepositL l �
 valued NormS h args fits = at_one (λ (l : List ℤ). value_of NormS l ≡ Some (number_of (Call NormS) l)) W16 args fits (λ x. refl)
 valued NormL h args fits = at_one (λ (l : List ℤ). value_of NormL l ≡ Some (number_of (Call NormL) l)) W32 args fits (λ x. refl)
 valued DivS h args fits = absurd (h refl)
-
-pub not_division : (op : Op) → IsCornered op → op ≡ DivS → ⊥
-not_division op h e = subst IsCornered e h

@@ -1,5 +1,5 @@
 -- The numbers that a site gives on a box.
-use Rattle.std.specs.Prelude.{◌≡◌, ℤ, ◌≤ℤ◌, FitsSigned, List, Option, Some, MatchOption}
+use Rattle.std.specs.Prelude.{◌≡◌, ℤ, ◌≤ℤ◌, FitsSigned, List, [], Option, Some, MatchOption}
 use Rattle.std.specs.List.{Contains}
 use Rattle.std.specs.Int.{w32}
 use Rattle.operator_meaning.specs.Value.{value_of}
@@ -13,6 +13,12 @@ use Rattle.range_transfer.specs.Site.{number_of}
 -- a value of the operator on valid operands of the box
 abbrev pub IsValueOn : Op → List Range → ℤ → Type 0
 IsValueOn op ranges x = (args : List ℤ) × IsInBox args ranges × (value_of op args ≡ Some x)
+
+-- each number of a function on the box lies between two of its numbers at corners
+abbrev pub IsBetweenCorners : (List ℤ → ℤ) → List Range → Type 0
+IsBetweenCorners f ranges = (args : List ℤ) → IsInBox args ranges →
+    ((corner : List ℤ) × Contains (corners [] ranges) corner × (f corner ≤ℤ f args))
+    × ((corner : List ℤ) × Contains (corners [] ranges) corner × (f args ≤ℤ f corner))
 
 -- a number of 32 bits from one of the numbers of the box to another
 abbrev pub LiesBetween : SiteKind → List Range → ℤ → Type 0

@@ -8,7 +8,7 @@ use Rattle.operator_meaning.specs.Clipping.{Clips}
 use Rattle.operator_meaning.specs.Table.{row_of}
 use Rattle.operator_meaning.specs.Value.{value_of, IsInvalid}
 use Rattle.operator_meaning.specs.declared.operator.Op.{Op}
-use Rattle.operator_meaning.specs.declared.operator.Op.TheVariants.{AbsS, LAbs, ExtractL, NormS, NormL, DivS}
+use Rattle.operator_meaning.specs.declared.operator.Op.TheVariants.{AbsS, LAbs, NormS, NormL}
 use Rattle.operator_meaning.specs.declared.site.SiteKind.{SiteKind}
 use Rattle.operator_meaning.specs.declared.site.SiteKind.TheVariants.{Call, Sum, Difference, Product, Opposite, Bound, ViewBound, ViewEdge, Sample}
 use Rattle.range_transfer.specs.declared.question.Question.{Question}
@@ -76,12 +76,10 @@ abbrev pub kind_of : Question → SiteKind
 kind_of (DoesClip op) = Call op
 kind_of (DoesStop kind) = kind
 
--- the operators whose least and greatest values are at corners
-abbrev pub IsCornered : Op → Type 0
-IsCornered AbsS = ⊥
-IsCornered LAbs = ⊥
-IsCornered ExtractL = ⊥
-IsCornered NormS = ⊥
-IsCornered NormL = ⊥
-IsCornered DivS = ⊥
-IsCornered op = Unit {0}
+-- the operators whose values rise or fall on one side of 0, and turn there
+abbrev pub TurnsAtZero : Op → Type 0
+TurnsAtZero AbsS = Unit {0}
+TurnsAtZero LAbs = Unit {0}
+TurnsAtZero NormS = Unit {0}
+TurnsAtZero NormL = Unit {0}
+TurnsAtZero op = ⊥

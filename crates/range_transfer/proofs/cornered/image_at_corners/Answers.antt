@@ -8,8 +8,8 @@ use Rattle.range_transfer.specs.Box.{operands_of, IsInBox}
 use Rattle.range_transfer.specs.Image.{IsValueOn}
 use Rattle.range_transfer.specs.Site.{widths_of, number_of}
 use Rattle.range_transfer.proofs.Least.{none_is_least}
-use Rattle.range_transfer.proofs.Numbers.{empty_box, bounds_of, Bounds, least_of_bounds, range_of_bounds, read_end}
-use Rattle.range_transfer.proofs.Ops.{op_steady, valued, not_division}
+use Rattle.range_transfer.proofs.Numbers.{empty_box, bounds_between, Bounds, least_of_bounds, range_of_bounds, read_end}
+use Rattle.range_transfer.proofs.Ops.{valued}
 use Rattle.range_transfer.proofs.Reach.{corners_fit, length_fits, ranges_fit, box_fits}
 use Rattle.range_transfer.proofs.Stops.{few_widths}
 use Rattle.range_transfer.proofs.cornered.image_at_corners.Goals as goal
@@ -28,11 +28,11 @@ returns-in_default-clause-least c = none_is_least (IsValueOn c.args.op c.args.op
 
 bounds : (c : goal.After-struct_told-1) → Bounds (number_of (Call c.args.op)) c.args.operands.now c.in-Some.found.least c.in-Some.found.most
 bounds c =
-    bounds_of (row_of c.args.op).takes (number_of (Call c.args.op)) (operands_of c.none.result) c.args.operands.now c.in-Some.found.least c.in-Some.found.most
-    (op_steady c.shifts_round.ensures c.args.op c.requires.cornered) c.requires.operands c.none.ensures.operands c.in-Some.ensures
+    bounds_between (row_of c.args.op).takes (number_of (Call c.args.op)) (operands_of c.none.result) c.args.operands.now c.in-Some.found.least c.in-Some.found.most
+    c.requires.between c.requires.operands c.none.ensures.operands c.in-Some.ensures
 
 has_value : (c : goal.After-struct_told-1) (args : List ℤ) → IsInBox args c.args.operands.now → value_of c.args.op args ≡ Some (number_of (Call c.args.op) args)
-has_value c args in' = valued c.args.op (not_division c.args.op c.requires.cornered) args (box_fits (row_of c.args.op).takes c.args.operands.now args c.requires.operands in')
+has_value c args in' = valued c.args.op c.requires.valued args (box_fits (row_of c.args.op).takes c.args.operands.now args c.requires.operands in')
 
 range : (c : goal.After-struct_told-1) → IsRange (Span c.in-Some.found.least c.in-Some.found.most)
 range c =
