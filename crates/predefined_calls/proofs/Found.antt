@@ -10,7 +10,8 @@ use Rattle.operator_meaning.specs.Table.{row_of, IsNameOf, IsNoName}
 use Rattle.operator_meaning.specs.declared.operator.Op.{Op}
 use Rattle.operator_meaning.specs.declared.operator.Op.TheVariants.{Add, Round}
 use Rattle.operator_meaning.specs.declared.operator.TheConstants.{OPERATORS}
-use Rattle.operator_meaning.proofs.Names.{place_of, place_within, at_place, names_are_distinct}
+use Rattle.operator_meaning.proofs.Names.{place_within, at_place, names_are_distinct}
+use Rattle.operator_meaning.specs.Order.{place_of}
 use Rattle.predefined_calls.specs.Calls.{operator_of}
 
 find-passes : {X : Type 0} (test : X → Bool) (xs : List X) (x : X) → find test xs ≡ Some x → test x ≡ true
