@@ -1,7 +1,26 @@
-use crate::reading::read_text;
+// The shapes of what is read.
+
+use crate::tree::read_text;
 use c_tree::{Arg, BinaryMark, Block, Expr, ExprKind, Init, Item, Program, Stmt, UnaryMark};
 use std::alloc::{AllocError, Global};
-use std::test::Fail;
+
+/// The shape of the value that the one object of a source starts with, or the `if` of the first `else` of its one
+/// function.
+pub fn shape_of(alloc: Global, text: &[u8]) -> Result<String, AllocError> {
+    let Some(Ok(program)) = read_text(alloc, text) else {
+        return String::from_str(alloc, "no tree");
+    };
+    if let Some(value) = initial(&program) {
+        return shown(alloc, value);
+    }
+    match body(&program)
+        .and_then(|block| block.stmts.get(0))
+        .and_then(owner_of_else)
+    {
+        Some(tok) => format!(in alloc; "else of the if at token {tok}"),
+        None => String::from_str(alloc, "no shape"),
+    }
+}
 
 fn unary_text(mark: UnaryMark) -> &'static str {
     match mark {
@@ -76,43 +95,6 @@ fn initial(program: &Program) -> Option<&Expr> {
     }
 }
 
-/// What `shown` says of an expression.
-fn shape(alloc: Global, expression: &str) -> Result<String, Fail> {
-    let text = format!(in alloc; "int x={expression};")?;
-    let program = read_text(alloc, text.as_bytes()).ok_or("no tokens")??;
-    Ok(shown(alloc, initial(&program).ok_or("no value")?)?)
-}
-
-#[test]
-fn expressions(rt: HostRuntime) -> Result<(), Fail> {
-    let cases = [
-        ("1+2-3+4", "[[[1+2]-3]+4]"),
-        ("1*2*3", "[[1*2]*3]"),
-        ("1||2||3&&4&&5", "[[1||2]||[[3&&4]&&5]]"),
-        ("1|2^3&4==5<6+7*8", "[1|[2^[3&[4==[5<[6+[7*8]]]]]]]"),
-        (
-            "1*2+3>4!=5&6^7|8&&9||10",
-            "[[[[[[[[[1*2]+3]>4]!=5]&6]^7]|8]&&9]||10]",
-        ),
-        ("1<2<=3>4>=5", "[[[[1<2]<=3]>4]>=5]"),
-        ("1==2!=3", "[[1==2]!=3]"),
-        ("-1*-2", "[[-1]*[-2]]"),
-        ("!~+-1", "[![~[+[-1]]]]"),
-        ("1-(2-3)", "[1-[2-3]^1]"),
-        ("((1))", "1^2"),
-        ("-(((2)+(3)))", "[-[2^1+3^1]^2]"),
-        ("1?2:3?4:5", "[1?2:[3?4:5]]"),
-        ("1?2?3:4:5", "[1?[2?3:4]:5]"),
-        ("1||2?3:4", "[[1||2]?3:4]"),
-        ("1?2:3||4", "[1?2:[3||4]]"),
-    ];
-    for (expression, expected) in cases {
-        let answer = shape(rt.alloc(), expression)?;
-        assert_eq!(rt; answer.as_str(), expected, "{expression}");
-    }
-    Ok(())
-}
-
 /// The statements of the one function of a source.
 fn body(program: &Program) -> Option<&Block> {
     match program.items.get(0)? {
@@ -139,17 +121,4 @@ fn owner_of_else(stmt: &Stmt) -> Option<u32> {
         },
         _ => None,
     }
-}
-
-#[test]
-fn an_else_belongs_to_the_nearest_if(rt: HostRuntime) -> Result<(), Fail> {
-    let text = b"void f(){if(1)if(2);else;}";
-    let program = read_text(rt.alloc(), text).ok_or("no tokens")??;
-    let stmt = body(&program)
-        .ok_or("no body")?
-        .stmts
-        .get(0)
-        .ok_or("no statement")?;
-    assert_eq!(rt; owner_of_else(stmt), Some(9));
-    Ok(())
 }
