@@ -1,0 +1,8 @@
+// What holds of the words of sites, of operands of any value.
+
+ghost use Rattle.operator_lowering.specs.Laws.{SitesAreCourses};
+
+/// The words of each site, in each form, with its guard and without, lead to its value or to its stop.
+pub fn sites_are_courses()
+    ensures { SitesAreCourses }
+{}

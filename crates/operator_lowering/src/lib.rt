@@ -1,0 +1,5 @@
+// The words of sites.
+#![tactic(auto)]
+
+pub mod laws;
+mod tables;

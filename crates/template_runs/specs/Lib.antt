@@ -1,0 +1,6 @@
+pub mod Machine
+pub mod Courses
+pub mod Parts
+pub mod Values
+pub mod Renaming
+pub mod Fitting

@@ -1,0 +1,14 @@
+// What holds of runs of templates, of instructions of any number and registers of any site.
+
+ghost use Rattle.template_runs.specs.Fitting.{FieldsFit};
+ghost use Rattle.template_runs.specs.Machine.{CoursesAreRuns};
+
+/// Where the course of a template ends, the machine comes, over the registers of any site.
+pub fn courses_are_runs()
+    ensures { CoursesAreRuns }
+{}
+
+/// Instructions that are fit in a template are fit over the registers of any site.
+pub fn fields_fit()
+    ensures { FieldsFit }
+{}
