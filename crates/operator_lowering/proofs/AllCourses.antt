@@ -20,7 +20,7 @@ use Rattle.operator_lowering.proofs.CheckCourses.{sum_kept, sum_gone, difference
 use Rattle.operator_lowering.proofs.GuardCourses.{product_kept, product_gone, bound_kept, bound_gone, view_kept, view_gone, edge_kept, edge_gone, sample_kept, sample_gone}
 use Rattle.operator_lowering.proofs.QuotientCourses.{div_s_kept, div_s_gone}
 
-operator_course : (o : Op) (form : Form) (guard : Guard) → IsCourse (kind.Call o) form guard
+pub operator_course : (o : Op) (form : Form) (guard : Guard) → IsCourse (kind.Call o) form guard
 operator_course op.Add form guard = add form guard
 operator_course op.Sub form guard = sub form guard
 operator_course op.AbsS form guard = abs_s form guard

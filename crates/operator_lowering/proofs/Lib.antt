@@ -22,3 +22,8 @@ pub mod Shifts
 pub mod ShiftTrees
 pub mod ShiftCourses
 pub mod AllCourses
+pub mod Ways
+pub mod Begins
+pub mod Sound
+pub mod Ready
+pub mod Templates

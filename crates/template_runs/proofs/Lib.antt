@@ -3,3 +3,5 @@ pub mod Names
 pub mod Steps
 pub mod Follows
 pub mod Fits
+pub mod Copies
+pub mod Plain

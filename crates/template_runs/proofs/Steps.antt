@@ -25,13 +25,13 @@ use Rattle.template_runs.proofs.Names.{is_named, and_parts, writable_fits, known
 with_set : (xs : List ℤ) (r : ℕ) (v : ℤ) → r ≢ 0 → registers_with xs r v ≡ slice_set xs r v
 with_set xs r v some = ⊎_elim (λ (is : (r == 0) ≡ true). absurd (some (eqb-true r 0 is))) (λ (no : (r == 0) ≡ false). ap (λ b. if b then xs else slice_set xs r v) no) (cases_Bool (r == 0))
 
-count_with : (xs : List ℤ) (r : ℕ) (v : ℤ) → r ≢ 0 → length (registers_with xs r v) ≡ length xs
+pub count_with : (xs : List ℤ) (r : ℕ) (v : ℤ) → r ≢ 0 → length (registers_with xs r v) ≡ length xs
 count_with xs r v some = ap length (with_set xs r v some) ∙ length-set xs r v
 
-same_with : (xs : List ℤ) (r : ℕ) (v : ℤ) → r ≢ 0 → r < length xs → slice_index_or (registers_with xs r v) r (pos 0) ≡ v
+pub same_with : (xs : List ℤ) (r : ℕ) (v : ℤ) → r ≢ 0 → r < length xs → slice_index_or (registers_with xs r v) r (pos 0) ≡ v
 same_with xs r v some less = ap (λ l. slice_index_or l r (pos 0)) (with_set xs r v some) ∙ get_or-set_same xs r v (pos 0) less
 
-other_with : (xs : List ℤ) (r n : ℕ) (v : ℤ) → r ≢ 0 → n ≢ r → slice_index_or (registers_with xs r v) n (pos 0) ≡ slice_index_or xs n (pos 0)
+pub other_with : (xs : List ℤ) (r n : ℕ) (v : ℤ) → r ≢ 0 → n ≢ r → slice_index_or (registers_with xs r v) n (pos 0) ≡ slice_index_or xs n (pos 0)
 other_with xs r n v some other = ap (λ l. slice_index_or l n (pos 0)) (with_set xs r v some) ∙ get_or-set_other xs r n v (pos 0) other
 
 -- ---- courses

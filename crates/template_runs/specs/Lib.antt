@@ -4,3 +4,5 @@ pub mod Parts
 pub mod Values
 pub mod Renaming
 pub mod Fitting
+pub mod Copies
+pub mod Plainness
