@@ -72,5 +72,5 @@ all_courses kind.ViewEdge form Kept allowed = plainly kind.ViewEdge form Kept al
 all_courses kind.ViewEdge form Gone allowed = plainly kind.ViewEdge form Gone allowed edge_gone
 all_courses kind.Sample form Kept allowed = plainly kind.Sample form Kept allowed sample_kept
 all_courses kind.Sample form Gone allowed = plainly kind.Sample form Gone allowed sample_gone
-all_courses (kind.Bound bound) form Kept allowed = plainly (kind.Bound bound) form Kept allowed.1 (bound_kept bound allowed.0)
-all_courses (kind.Bound bound) form Gone allowed = plainly (kind.Bound bound) form Gone allowed.1 (bound_gone bound)
+all_courses (kind.Bound bound) form Kept allowed = plainly (kind.Bound bound) form Kept allowed (bound_kept bound)
+all_courses (kind.Bound bound) form Gone allowed = plainly (kind.Bound bound) form Gone allowed (bound_gone bound)

@@ -12,7 +12,9 @@ use Rattle.template_runs.specs.Machine.{StandHere, IsBefore, begun}
 use Rattle.template_runs.specs.Renaming.{AreInRange, IsPlace, all_over}
 use Rattle.operator_lowering.specs.Courses.{apart_of, is_moved}
 use Rattle.operator_lowering.specs.Template.{ArePlaces}
-use Rattle.operator_lowering.specs.Words.{Way, Straight, Moves, KeepsFirst, KeepsThird, Turns, front, places, copy, keeps_first, turns}
+use Rattle.operator_lowering.specs.declared.way.Way.{Way}
+use Rattle.operator_lowering.specs.declared.way.Way.TheVariants.{Straight, Moves, KeepsFirst, KeepsThird, Turns}
+use Rattle.operator_lowering.specs.Words.{front, places, copy, keeps_first, turns}
 use Rattle.operator_lowering.proofs.Ways.{Done, straight, copied_first}
 
 in_range : (regs : Registers) → ArePlaces regs → AreInRange regs

@@ -45,7 +45,7 @@ product_kept site a b c flag input small asked =
 
 -- ---- bounds
 
-module _ (a : ℤ) (bound : ℕ) (fits : FitsSigned w32 a) (small : bound < 2 ^ 32) where
+module _ (a : ℤ) (bound : ℕ) (fits : FitsSigned w32 a) where
   abbrev limit : ℤ
   limit = cast_signed w32 (bound_of bound)
 
@@ -72,13 +72,13 @@ bound_gone bound site a b c flag input small asked =
     (λ (e : between (pos 0) (pos bound -ℤ pos 1) a ≡ None). absurd (asked.goes_on refl e))
     (either_way (pos 0) (pos bound -ℤ pos 1) a)
 
-pub bound_kept : (bound : ℕ) → bound < 2 ^ 32 → IsCourse (kind.Bound bound) Plain Kept
-bound_kept bound less_bound site a b c flag input small asked =
+pub bound_kept : (bound : ℕ) → IsCourse (kind.Bound bound) Plain Kept
+bound_kept bound site a b c flag input small asked =
     let fits = asked.fit.0 in
     let n = bound_of bound in
     let way = λ (m s : Bool). runs (checked_by s (bound_check m n) site) 0 (begun 0 false true a b c flag input) ≡ led_to (between (pos 0) (pos bound -ℤ pos 1) a) site flag input in
-    let in_limit = λ (x : ℤ) (is : x ≡ cast_signed w32 n) (t : below a x ≡ true). inside a bound fits less_bound (subst (λ y. below a y ≡ true) is t) in
-    let past_limit = λ (x : ℤ) (is : x ≡ cast_signed w32 n) (t : below a x ≡ false). outside a bound fits less_bound (subst (λ y. below a y ≡ false) is t) in
+    let in_limit = λ (x : ℤ) (is : x ≡ cast_signed w32 n) (t : below a x ≡ true). inside a bound fits (subst (λ y. below a y ≡ true) is t) in
+    let past_limit = λ (x : ℤ) (is : x ≡ cast_signed w32 n) (t : below a x ≡ false). outside a bound fits (subst (λ y. below a y ≡ false) is t) in
     by_size n
     (λ e is. subst (λ m. way m (is_small site)) (sym e)
     (by_size site
@@ -90,10 +90,10 @@ bound_kept bound less_bound site a b c flag input small asked =
     (λ f number. subst (way false) (sym f) (by_test (below a _) (λ t. leads site refl (in_limit _ is t)) (λ t. rw five (halts site flag input number (past_limit _ is t)))))
     (λ f number. subst (way false) (sym f) (by_test (below a _) (λ t. leads site refl (in_limit _ is t)) (λ t. rw five (halts site flag input number (past_limit _ is t)))))
     small))
-    (few bound less_bound)
+    (few bound)
   where
-    few : (n : ℕ) → n < 2 ^ 32 → min n 2147483648 < 2 ^ 32
-    few n less = omega arith
+    few : (n : ℕ) → min n 2147483648 < 2 ^ 32
+    few n = omega arith
 
 -- ---- views
 

@@ -155,12 +155,12 @@ ready kind.Sample form Kept allowed =
 ready kind.Sample form Gone allowed =
     plainly kind.Sample form Gone allowed (λ site a b c flag input small asked. (tt, all_courses kind.Sample Plain Gone refl site a b c flag input small asked))
 ready (kind.Bound bound) form Kept allowed =
-    plainly (kind.Bound bound) form Kept allowed.1 (λ site a b c flag input small asked. (
+    plainly (kind.Bound bound) form Kept allowed (λ site a b c flag input small asked. (
       asked.fit.0,
-      λ b' c'. all_courses (kind.Bound bound) Plain Kept (allowed.0, refl) site a b' c' flag input small (record { fit = asked.fit; unclipped = asked.unclipped; goes_on = asked.goes_on; samples = asked.samples }),
+      λ b' c'. all_courses (kind.Bound bound) Plain Kept refl site a b' c' flag input small (record { fit = asked.fit; unclipped = asked.unclipped; goes_on = asked.goes_on; samples = asked.samples }),
     ))
 ready (kind.Bound bound) form Gone allowed =
-    plainly (kind.Bound bound) form Gone allowed.1 (λ site a b c flag input small asked. (
+    plainly (kind.Bound bound) form Gone allowed (λ site a b c flag input small asked. (
       asked.fit.0,
-      λ b' c'. all_courses (kind.Bound bound) Plain Gone (allowed.0, refl) site a b' c' flag input small (record { fit = asked.fit; unclipped = asked.unclipped; goes_on = asked.goes_on; samples = asked.samples }),
+      λ b' c'. all_courses (kind.Bound bound) Plain Gone refl site a b' c' flag input small (record { fit = asked.fit; unclipped = asked.unclipped; goes_on = asked.goes_on; samples = asked.samples }),
     ))

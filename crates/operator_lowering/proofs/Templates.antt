@@ -24,7 +24,9 @@ use Rattle.template_runs.proofs.Plain.{plain_stay}
 use Rattle.operator_lowering.specs.Laws.{IsFormOf}
 use Rattle.operator_lowering.specs.Sites.{site_value, led_to, site_final}
 use Rattle.operator_lowering.specs.Template.{ArePlaces, AreAsked, IsAfter, DoesSite, TemplateHolds, makes_calls, may_compare}
-use Rattle.operator_lowering.specs.Words.{Way, Straight, Moves, KeepsFirst, KeepsThird, Turns, front, places, copy, keeps_first, turns, way_of, site_words, template_words}
+use Rattle.operator_lowering.specs.declared.way.Way.{Way}
+use Rattle.operator_lowering.specs.declared.way.Way.TheVariants.{Straight, Moves, KeepsFirst, KeepsThird, Turns}
+use Rattle.operator_lowering.specs.Words.{front, places, copy, keeps_first, turns, way_of, site_words, template_words}
 use Rattle.operator_lowering.proofs.Begins.{begins}
 use Rattle.operator_lowering.proofs.Ready.{ready}
 use Rattle.operator_lowering.proofs.Sound.{sound}

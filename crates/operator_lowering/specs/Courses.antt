@@ -8,7 +8,9 @@ use Rattle.template_runs.specs.Courses.{Final, runs}
 use Rattle.template_runs.specs.Machine.{begun}
 use Rattle.operator_lowering.specs.Sites.{site_final}
 use Rattle.operator_lowering.specs.Template.{AreAsked, makes_calls}
-use Rattle.operator_lowering.specs.Words.{Way, Straight, Moves, KeepsFirst, KeepsThird, Turns, way_of, site_words}
+use Rattle.operator_lowering.specs.declared.way.Way.{Way}
+use Rattle.operator_lowering.specs.declared.way.Way.TheVariants.{Straight, Moves, KeepsFirst, KeepsThird, Turns}
+use Rattle.operator_lowering.specs.Words.{way_of, site_words}
 
 -- the operand that is known to be apart from the result
 abbrev pub apart_of : Way → ℕ

@@ -12,6 +12,8 @@ use Rattle.rv_encode.specs.declared.instruction.Instr.{Instr}
 use Rattle.rv_encode.specs.declared.instruction.Instr.TheVariants.{Lui, Addi, Add, Sub, Mul, Mulh, Srai, Slli, Srli, Div, Beq, Bne, Blt, Bge, Bltu, Bgeu, Jal, Ecall}
 use Rattle.template_runs.specs.declared.registers.Registers.{Registers}
 use Rattle.template_runs.specs.Renaming.{all_over}
+use Rattle.operator_lowering.specs.declared.way.Way.{Way}
+use Rattle.operator_lowering.specs.declared.way.Way.TheVariants.{Straight, Moves, KeepsFirst, KeepsThird, Turns}
 use Rattle.operator_lowering.specs.declared.tables.sums.TheConstants.{SUM, DIFFERENCE, L_ADD_CLAMP, L_ADD_FLAG, L_SUB_CLAMP, L_SUB_FLAG, ROUND_PLAIN, ROUND_CLAMP, ROUND_FLAG}
 use Rattle.operator_lowering.specs.declared.tables.clips.TheConstants.{CLIP_16_CLAMP, CLIP_16_FLAG, CLIP_FRACTION_CLAMP, CLIP_FRACTION_FLAG}
 use Rattle.operator_lowering.specs.declared.tables.halves.TheConstants.{EXTRACT_H, EXTRACT_L, DEPOSIT_H, MOVE, ABS_PLAIN, ABS_16, ABS_32, NEGATE_PLAIN, NEGATE_16, NEGATE_32}
@@ -44,8 +46,8 @@ operator_words op.Negate form = by_form NEGATE_PLAIN NEGATE_16 NEGATE_16 form
 operator_words op.Round form = by_form ROUND_PLAIN ROUND_CLAMP ROUND_FLAG form
 operator_words op.LMac form = by_form L_MAC_PLAIN L_MAC_CLAMP L_MAC_FLAG form
 operator_words op.LMsu form = by_form L_MSU_PLAIN L_MSU_CLAMP L_MSU_FLAG form
-operator_words op.MacR form = by_form MAC_PLAIN (MAC_CLAMP ++ ROUND_SUM_CLAMP) (MAC_FLAG ++ ROUND_SUM_FLAG) form
-operator_words op.MsuR form = by_form MSU_PLAIN (MSU_CLAMP ++ ROUND_SUM_CLAMP) (MSU_FLAG ++ ROUND_SUM_FLAG) form
+operator_words op.MacR form = by_form MAC_PLAIN MAC_CLAMP MAC_FLAG form ++ by_form [] ROUND_SUM_CLAMP ROUND_SUM_FLAG form
+operator_words op.MsuR form = by_form MSU_PLAIN MSU_CLAMP MSU_FLAG form ++ by_form [] ROUND_SUM_CLAMP ROUND_SUM_FLAG form
 operator_words op.LAdd form = by_form SUM L_ADD_CLAMP L_ADD_FLAG form
 operator_words op.LSub form = by_form DIFFERENCE L_SUB_CLAMP L_SUB_FLAG form
 operator_words op.LNegate form = by_form NEGATE_PLAIN NEGATE_32 NEGATE_32 form
@@ -153,16 +155,6 @@ site_words kind.Sample form Kept site = checked sample_check site ++ sample_word
 site_words kind.Sample form Gone site = sample_words
 
 -- ---- registers that meet
-
--- What is done before the words of a site: nothing; the first operand is moved to the result; or an operand that is read
--- after the result is written is kept in x28 where it lies in the register of the result. The operands of a sum may be
--- turned in place of that.
-pub data Way : Type 0 where
-  Straight : Way
-  Moves : Way
-  KeepsFirst : Way
-  KeepsThird : Way
-  Turns : Way
 
 abbrev pub by_clip : Way → Form → Way
 by_clip way Plain = Straight
