@@ -1,0 +1,5 @@
+pub mod Faults
+pub mod Rows
+pub mod Limits
+pub mod Shapes
+pub mod Told
