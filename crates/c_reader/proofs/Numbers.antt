@@ -6,13 +6,13 @@ use Rattle.std.proofs.lemmas.List.{length-append}
 use Rattle.c_lexer.specs.declared.token.Token.{Token}
 use Rattle.c_lexer.specs.declared.token.TokenKind.{TokenKind}
 use Rattle.c_lexer.specs.declared.token.TokenKind.TheVariants as kind
-use Rattle.c_reader.specs.declared.symbol.Symbol.{Symbol}
-use Rattle.c_reader.specs.declared.symbol.Symbol.TheVariants as symbol
-use Rattle.c_reader.specs.Spots.{Spot, bytes_of, spot_of, spots_from, symbol_of, symbol_written, words, marks, here}
-use Rattle.c_reader.specs.Stream.{ahead}
-use Rattle.c_reader.specs.Symbols.{same_symbol}
-use Rattle.c_reader.proofs.Right.{first, Ends}
-use Rattle.c_reader.proofs.SymbolNumbers.{other-is}
+use Rattle.c_grammar.specs.declared.symbol.Symbol.{Symbol}
+use Rattle.c_grammar.specs.declared.symbol.Symbol.TheVariants as symbol
+use Rattle.c_grammar.specs.Spots.{Spot, bytes_of, spot_of, spots_from, symbol_of, symbol_written, words, marks, here}
+use Rattle.right_reading.specs.Stream.{ahead}
+use Rattle.c_grammar.specs.Symbols.{same_symbol}
+use Rattle.right_reading.specs.Right.{first, Ends}
+use Rattle.c_grammar.proofs.SymbolNumbers.{other-is}
 
 pub length-spots : (text : List ℕ) (tok : ℕ) (tokens : List Token) → length (spots_from text tok tokens) ≡ length tokens
 length-spots text tok [] = refl

@@ -7,26 +7,27 @@ use Rattle.c_lexer.specs.declared.token.Tokens.{Tokens}
 use Rattle.c_tree.specs.declared.program.Item.{Item}
 use Rattle.c_tree.specs.declared.program.Program.{Program}
 use Rattle.c_tree.specs.Depth.{deepest, depth_of_item}
-use Rattle.c_reader.specs.declared.refusal.ReadRefusal.{ReadRefusal}
-use Rattle.c_reader.specs.declared.refusal.ReadRefusal.TheVariants as refusal
-use Rattle.c_reader.specs.declared.symbol.Symbol.TheVariants as symbol
-use Rattle.c_reader.specs.Gives.{Fails}
-use Rattle.c_reader.specs.Nodes as a
-use Rattle.c_reader.specs.Parts.{each}
-use Rattle.c_reader.specs.Programs.{IsRefused, SpellAtMostOne, stream_of}
-use Rattle.c_reader.specs.ReadDeclarations.{objects_at}
-use Rattle.c_reader.specs.ReadSource.{items_at}
-use Rattle.c_reader.specs.ReadStatements.{block_with}
-use Rattle.c_reader.specs.Spelling as parts
-use Rattle.c_reader.specs.Spots.{Spot, spots_of, end_of}
-use Rattle.c_reader.specs.Stream.{ahead, Fault}
-use Rattle.c_reader.proofs.Dependent.{seen_by}
-use Rattle.c_reader.proofs.Depths.{program_depth}
-use Rattle.c_reader.proofs.ItemsRight.{read_items, items_are}
-use Rattle.c_reader.proofs.Many.{front_of}
+use Rattle.c_grammar.specs.declared.refusal.ReadRefusal.{ReadRefusal}
+use Rattle.c_grammar.specs.declared.refusal.ReadRefusal.TheVariants as refusal
+use Rattle.c_grammar.specs.declared.symbol.Symbol.TheVariants as symbol
+use Rattle.c_parser.specs.Gives.{Fails}
+use Rattle.c_grammar.specs.Nodes as a
+use Rattle.c_grammar.specs.Parts.{each}
+use Rattle.c_grammar.specs.Programs.{IsRefused, SpellAtMostOne, stream_of}
+use Rattle.right_reading.specs.ReadDeclarations.{objects_at}
+use Rattle.right_reading.specs.ReadSource.{items_at}
+use Rattle.right_reading.specs.ReadStatements.{block_with}
+use Rattle.c_grammar.specs.Spelling as parts
+use Rattle.c_grammar.specs.Spots.{Spot, spots_of, end_of}
+use Rattle.right_reading.specs.Stream.{ahead, Fault}
+use Rattle.right_reading.proofs.Dependent.{seen_by}
+use Rattle.c_grammar.proofs.Depths.{program_depth}
+use Rattle.c_grammar.proofs.ProgramDepths.{some_of}
+use Rattle.item_reading.specs.Laws.{ReadsItems}
+use Rattle.right_reading.proofs.Many.{front_of}
 use Rattle.c_reader.proofs.Numbers.{ends-last}
 use Rattle.c_reader.proofs.SourceRight.{source_right}
-use Rattle.c_reader.proofs.Whole.{ItemsRight, all_read, syntax_fault, too_deep, same_items, some_of}
+use Rattle.c_reader.proofs.Whole.{ItemsRight, all_read, syntax_fault, too_deep, same_items}
 
 -- what is read of all tokens
 abbrev pub whole_at : List Spot → Result (List Item × List Spot) Fault
@@ -63,17 +64,16 @@ by_fault tokens (Err f) right (refusal.TooDeep tok place) e =
     too_deep tokens DEPTH (record { tok = tok; pos = place }) (subst (λ (g : Fault). ItemsRight DEPTH (stream_of tokens) (Err g)) same right) refl
 
 module _ (tokens : Tokens) where
-  all_right : ItemsRight DEPTH (stream_of tokens) (read_items (block_with objects_at DEPTH) DEPTH (stream_of tokens))
+  all_right : ReadsItems (block_with objects_at DEPTH) DEPTH (stream_of tokens)
   all_right = source_right DEPTH (stream_of tokens) (ends-last (spots_of tokens) (end_of tokens) refl)
 
   pub whole_tree : (items : List Item) (j : List Spot) → whole_at (stream_of tokens) ≡ Ok (items, j) → ahead j ≡ symbol.End → WholeTree tokens items
   whole_tree items j e is =
-      by_read tokens (read_items (block_with objects_at DEPTH) DEPTH (stream_of tokens)) all_right items j (sym (items_are (block_with objects_at DEPTH) DEPTH (stream_of tokens)) ∙ e) is
+      by_read tokens all_right.read all_right.right items j (sym all_right.same ∙ e) is
 
   pub whole_refused : (r : ReadRefusal) → Fails r (whole_at (stream_of tokens)) → IsRefused tokens r
   whole_refused r e =
-      by_fault tokens (read_items (block_with objects_at DEPTH) DEPTH (stream_of tokens)) all_right r
-      (subst (λ (y : Result (List Item × List Spot) Fault). Fails r y) (items_are (block_with objects_at DEPTH) DEPTH (stream_of tokens)) e)
+      by_fault tokens all_right.read all_right.right r (subst (λ (y : Result (List Item × List Spot) Fault). Fails r y) all_right.same e)
 
 -- ---- at most one tree
 
@@ -88,7 +88,8 @@ one_tree tokens p q sp sq =
     let i = stream_of tokens in
     let s1 = subst (λ (items : List Item). parts.Spells (each a.item items) sp.items.depth (spots_of tokens)) x.same sp.items.spelled in
     let s2 = subst (λ (items : List Item). parts.Spells (each a.item items) sq.items.depth (spots_of tokens)) y.same sq.items.spelled in
-    let same = same_items n (spots_of tokens) (end_of tokens) (read_items (block_with objects_at n) n i) (source_right n i (ends-last (spots_of tokens) (end_of tokens) refl)) refl
+    let read = source_right n i (ends-last (spots_of tokens) (end_of tokens) refl) in
+    let same = same_items n (spots_of tokens) (end_of tokens) read.read read.right refl
     (x.x, x.xs) (y.x, y.xs) sp.items.depth sq.items.depth s1 s2 (omega arith) (omega arith) in
     same_programs p q (x.same ∙ ap (λ (z : Item × List Item). z.0 ∷ z.1) same ∙ sym y.same) (sp.end_tok ∙ sym sq.end_tok) (sp.end ∙ sym sq.end)
   where

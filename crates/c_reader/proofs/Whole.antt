@@ -8,38 +8,22 @@ use Rattle.c_lexer.specs.declared.token.Tokens.{Tokens}
 use Rattle.c_tree.specs.declared.program.Item.{Item}
 use Rattle.c_tree.specs.declared.program.Program.{Program}
 use Rattle.c_tree.specs.Depth.{depth_of}
-use Rattle.c_reader.specs.declared.symbol.Symbol.{Symbol}
-use Rattle.c_reader.specs.declared.symbol.Symbol.TheVariants as symbol
-use Rattle.c_reader.specs.Nodes as a
-use Rattle.c_reader.specs.Parts.{Part, each}
-use Rattle.c_reader.specs.Programs.{SpellsItems, FrontSpells, DepthsAreThoseOfTrees, Through, place_of, stream_of, IsSyntaxFault, IsTooDeep}
-use Rattle.c_reader.specs.Spelling as parts
-use Rattle.c_reader.specs.Spots.{Spot, spots_of, end_of, here}
-use Rattle.c_reader.specs.Stream.{ahead, Fault}
-use Rattle.c_reader.specs.Symbols.{same_symbol}
-use Rattle.c_reader.proofs.Depths.{program_depth, whole_front}
+use Rattle.c_grammar.specs.declared.symbol.Symbol.{Symbol}
+use Rattle.c_grammar.specs.declared.symbol.Symbol.TheVariants as symbol
+use Rattle.c_grammar.specs.Nodes as a
+use Rattle.c_grammar.specs.Parts.{each}
+use Rattle.c_grammar.specs.Programs.{SpellsItems, FrontSpells, Through, place_of, stream_of, IsSyntaxFault, IsTooDeep}
+use Rattle.c_grammar.specs.Spelling as parts
+use Rattle.c_grammar.specs.Spots.{Spot, spots_of, end_of, here}
+use Rattle.right_reading.specs.Stream.{ahead, Fault}
+use Rattle.c_grammar.proofs.Depths.{program_depth}
+use Rattle.c_grammar.proofs.ProgramDepths.{some_of}
 use Rattle.c_reader.proofs.Numbers.{length-spots, number-here, only-end, begins-alike, drop-length, take-length}
-use Rattle.c_reader.proofs.Right.{first_only, Ends, Read, Bad, Refused, Right}
-
--- one item, and those after it
-abbrev pub items_parts : Item × List Item → List Part
-items_parts x = each a.item (x.0 ∷ x.1)
-
-abbrev pub items_stops : Item × List Item → Symbol → Bool
-items_stops x s = same_symbol s symbol.End
+use Rattle.item_reading.specs.Laws.{items_parts, items_stops}
+use Rattle.right_reading.specs.Right.{first_only, Ends, Read, Bad, Refused, Right}
 
 abbrev pub ItemsRight : ℕ → List Spot → Result ((Item × List Item) × List Spot) Fault → Type 0
 ItemsRight n i y = Right items_parts n items_stops [] i y
-
--- a list of one item or more
-pub record IsSome (items : List Item) : Type 0 where
-  pub x : Item
-  pub xs : List Item
-  pub same : items ≡ x ∷ xs
-
-pub some_of : (items : List Item) → items ≢ [] → IsSome items
-some_of [] some = absurd (some refl)
-some_of (x ∷ xs) some = record { x = x; xs = xs; same = refl }
 
 fronts : (x : Item × List Item) (d : ℕ) (more rest t u : List Spot) → more ≡ t → more ++ first_only rest ≡ u → parts.Front (items_parts x) d more ⊎ parts.Front (items_parts x) d (more ++ first_only rest) → FrontSpells d t ⊎ FrontSpells d u
 fronts x d more rest t u e f (inl a) = inl (record { item = x.0; items = x.1; front = subst (λ (w : List Spot). parts.Front (items_parts x) d w) e a })
@@ -122,15 +106,6 @@ module _ (tokens : Tokens) (n : ℕ) where
   all_read x j q is =
       let o = only-end tokens.text 0 tokens.list (end_of tokens) q.more j q.whole is q.ends in
       subst (λ (w : List Spot). parts.Spells (items_parts x) q.depth w) o.0 q.spelled
-
--- ---- depth
-
-pub depths_of_trees : DepthsAreThoseOfTrees
-depths_of_trees program tokens s =
-    let some = some_of program.items s.some in
-    let depth = program_depth program.items s.spelled in
-    let spelled = subst (λ (items : List Item). parts.Spells (each a.item items) s.depth tokens) some.same s.spelled in
-    (depth, record { item = some.x; items = some.xs; front = subst (λ (d : ℕ). parts.Front (each a.item (some.x ∷ some.xs)) d tokens) depth (whole_front spelled) })
 
 -- ---- at most one tree
 

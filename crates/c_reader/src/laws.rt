@@ -1,13 +1,8 @@
-// What follows from the grammar alone.
+// What follows from the grammar alone, proved by reading.
 
-ghost use Rattle.c_reader.specs.Programs.{DepthsAreThoseOfTrees, SpellAtMostOne};
+ghost use Rattle.c_grammar.specs.Programs.{SpellAtMostOne};
 
 /// Tokens spell at most one tree.
 pub fn one_tree()
     ensures { SpellAtMostOne }
-{}
-
-/// The depth with which tokens spell a program, whole or as a front, is the depth of its tree.
-pub fn depths_of_trees()
-    ensures { DepthsAreThoseOfTrees }
 {}

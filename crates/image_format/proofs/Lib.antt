@@ -1,2 +1,10 @@
+pub mod Again
 pub mod Alike
+pub mod Broken
+pub mod Cells
+pub mod Chunks
 pub mod Entered
+pub mod EntryBytes
+pub mod Read
+pub mod ReadParts
+pub mod Spelled

@@ -1,13 +1,10 @@
-// Tests of the instructions, of images, of the machine that runs them, and of the outside of the program.
+// Tests of the fields of instructions, of the bytes of images, and of the outside of the program. What instructions do,
+// and which words they have, is tried by the program `machine_runs`.
 #![tactic(auto)]
 
 #[cfg(test)]
+mod fields;
+#[cfg(test)]
 mod images;
 #[cfg(test)]
-mod operations;
-#[cfg(test)]
 mod outside;
-#[cfg(test)]
-mod runs;
-#[cfg(test)]
-mod words;

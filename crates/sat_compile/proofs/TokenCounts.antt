@@ -18,15 +18,15 @@ use Rattle.c_tree.specs.declared.simple.Simple.{Simple}
 use Rattle.c_tree.specs.declared.simple.Simple.TheVariants as simple
 use Rattle.c_tree.specs.declared.statement.Block.{Block}
 use Rattle.c_tree.specs.declared.statement.Stmt.{Stmt, Simple as SimpleStmt}
-use Rattle.c_reader.specs.declared.symbol.Symbol.TheVariants.{CloseBrace}
-use Rattle.c_reader.specs.Grammar.{Rule}
-use Rattle.c_reader.specs.Grammar as rule
-use Rattle.c_reader.specs.Nodes.{Node}
-use Rattle.c_reader.specs.Nodes as a
-use Rattle.c_reader.specs.Parts.{Part, token, node, word, each, followed}
-use Rattle.c_reader.specs.Programs as programs
-use Rattle.c_reader.specs.Spelling.{Spells, nothing, quoted, whole}
-use Rattle.c_reader.specs.Spots.{Spot, spots_from, spots_of}
+use Rattle.c_grammar.specs.declared.symbol.Symbol.TheVariants.{CloseBrace}
+use Rattle.c_grammar.specs.Grammar.{Rule}
+use Rattle.c_grammar.specs.Grammar as rule
+use Rattle.c_grammar.specs.Nodes.{Node}
+use Rattle.c_grammar.specs.Nodes as a
+use Rattle.c_grammar.specs.Parts.{Part, token, node, word, each, followed}
+use Rattle.c_grammar.specs.Programs as programs
+use Rattle.c_grammar.specs.Spelling.{Spells, nothing, quoted, whole}
+use Rattle.c_grammar.specs.Spots.{Spot, spots_from, spots_of}
 use Rattle.first_form.specs.declared.first.First.{First}
 use Rattle.first_form.specs.declared.first.FirstExpr.{FirstExpr, Int, Add', Sub', more_of-FirstExpr as boxed}
 use Rattle.first_form.specs.Form.{IsExpr, AreOperands, IsArgument, IsOnlyArgument, IsOut, AreStatements, HasBody, IsOnlyItem, IsFirst}

@@ -5,7 +5,7 @@ use Rattle.c_lexer.specs.declared.token.Tokens.{Tokens}
 use Rattle.c_lexer.specs.Text.{IsCut}
 use Rattle.c_tree.specs.declared.program.Program.{Program}
 use Rattle.c_tree.specs.Depth.{depth_of}
-use Rattle.c_reader.specs.Programs.{Spells}
+use Rattle.c_grammar.specs.Programs.{Spells}
 use Rattle.first_form.specs.declared.first.First.{First}
 use Rattle.first_form.specs.Form.{IsFirst}
 use Rattle.image_format.specs.declared.image.Image.{Image}

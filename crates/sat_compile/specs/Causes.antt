@@ -4,7 +4,7 @@ use Rattle.sat_base.specs.declared.limits.TheConstants.{SOURCE_BYTES}
 use Rattle.c_lexer.specs.declared.token.Tokens.{Tokens}
 use Rattle.c_lexer.specs.Text.{first_lexical_fault}
 use Rattle.c_tree.specs.declared.program.Program.{Program}
-use Rattle.c_reader.specs.Programs.{IsSyntaxFault, IsTooDeep}
+use Rattle.c_grammar.specs.Programs.{IsSyntaxFault, IsTooDeep}
 use Rattle.first_form.specs.declared.first.First.{First}
 use Rattle.first_form.specs.Form.{IsFirst}
 use Rattle.sat_compile.specs.declared.refusal.CompileRefusal.{CompileRefusal}

@@ -5,8 +5,8 @@ use Rattle.sat_base.specs.declared.position.Pos.{Pos}
 use Rattle.sat_base.specs.Position.{first_position}
 use Rattle.c_lexer.specs.declared.token.LexRefusal.{LexRefusal}
 use Rattle.c_lexer.specs.declared.token.LexRefusal.TheVariants as lexical
-use Rattle.c_reader.specs.declared.refusal.ReadRefusal.{ReadRefusal}
-use Rattle.c_reader.specs.declared.refusal.ReadRefusal.TheVariants as reading
+use Rattle.c_grammar.specs.declared.refusal.ReadRefusal.{ReadRefusal}
+use Rattle.c_grammar.specs.declared.refusal.ReadRefusal.TheVariants as reading
 use Rattle.sat_compile.specs.declared.refusal.LexKind.{LexKind}
 use Rattle.sat_compile.specs.declared.refusal.LexKind.TheVariants.{BadByte, OpenComment, BadNumber, BadDirective, TooManyTokens}
 use Rattle.sat_compile.specs.declared.refusal.CompileRefusal.{CompileRefusal}

@@ -1,0 +1,15 @@
+pub mod Begun
+pub mod Counted
+pub mod Depths
+pub mod FrontsGoOn
+pub mod NodeDepths
+pub mod ProgramDepths
+pub mod RuleDepths
+pub mod RulesGoOn
+pub mod Schemes
+pub mod Sequences
+pub mod Shapes
+pub mod Somes
+pub mod SpotSteps
+pub mod SymbolNumbers
+pub mod SymbolSets

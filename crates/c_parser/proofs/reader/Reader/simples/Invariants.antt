@@ -1,0 +1,15 @@
+-- What the loop over commas keeps.
+use Rattle.std.proofs.Common.{◌≤◌, length}
+use Rattle.c_grammar.specs.declared.symbol.Symbol.TheVariants as symbol
+use Rattle.c_parser.specs.Gives.{left}
+use Rattle.right_reading.specs.Lists.{after, is_comma}
+use Rattle.right_reading.specs.ReadStatements.{simple_at, simples_at}
+use Rattle.c_parser.proofs.StatementLoops.{Goes}
+use Rattle.c_parser.proofs.reader.Reader.simples.Given as goal
+
+abbrev pub invariant-loop-alloc : goal.invariant-loop-alloc
+invariant-loop-alloc l =
+    Goes is_comma (after symbol.Comma (simple_at l.limit)) (simples_at l.limit (left l.fn.self)) l.simples (left l.self) × (length (left l.self) ≤ length (left l.fn.self))
+
+abbrev pub decreases-loop-alloc : goal.decreases-loop-alloc
+decreases-loop-alloc l = length (left l.self)

@@ -1,0 +1,12 @@
+pub mod Acyclic
+pub mod Descents
+pub mod Nearest
+pub mod Reversal
+pub mod Counts
+pub mod Fronts
+pub mod Places
+pub mod Waves
+pub mod Marks
+pub mod Searching
+pub mod Visiting
+pub mod Walking

@@ -1,0 +1,9 @@
+pub mod Walks
+pub mod Orders
+pub mod Cycles
+pub mod Search
+pub mod Distances
+pub mod Waves
+pub mod Backwards
+pub mod Refusals
+pub mod Laws

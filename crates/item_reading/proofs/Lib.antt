@@ -1,0 +1,10 @@
+pub mod AllRight
+pub mod Becoming
+pub mod Functions
+pub mod ItemKinds
+pub mod ItemModel
+pub mod ItemParts
+pub mod ItemRests
+pub mod ItemsRight
+pub mod Parameters
+pub mod ParametersRight

@@ -1,0 +1,178 @@
+-- The courses of sums with twice a product.
+use Rattle.std.proofs.Common.{◌≡◌, ◌≢◌, ℕ, ℤ, pos, negsuc, ◌+ℤ◌, ◌-ℤ◌, ◌*ℤ◌, ◌≤ℤ◌, ◌<ℤ◌, Bool, true, false, ◌||◌, if◌then◌else◌, List, refl, sym, ap, ◌∙◌, subst, arith}
+use Rattle.std.specs.Prelude.{FitsSigned}
+use Rattle.std.specs.Int.{w16, w32}
+use Rattle.std.proofs.lemmas.Int.{ints}
+use Rattle.sat_base.specs.Clip.{clip16, clip32}
+use Rattle.operator_meaning.specs.Clipping.{changes32, accumulation_clips, reduction_clips, rounding_clips}
+use Rattle.operator_meaning.specs.Value.{product_of, accumulated, reduced, rounded}
+use Rattle.operator_meaning.specs.declared.operator.Op.TheVariants as op
+use Rattle.operator_meaning.specs.declared.site.SiteKind.TheVariants.{Call}
+use Rattle.operator_meaning.specs.declared.site.Form.{Form}
+use Rattle.operator_meaning.specs.declared.site.Form.TheVariants.{Plain, Clamp, Flag}
+use Rattle.operator_meaning.specs.declared.site.Guard.{Guard}
+use Rattle.template_runs.specs.Courses.{Ends}
+use Rattle.template_runs.specs.Values.{added, taken, less, multiplied, to_left, to_right_signed, upper}
+use Rattle.operator_lowering.specs.Courses.{IsCourse}
+use Rattle.operator_lowering.proofs.Numbers.{less_true, less_false, kept32, above32, below32, range_of_kept32, clip_fits}
+use Rattle.operator_lowering.proofs.Sums.{IsExact, IsWrapped, other_end, added_within, added_fits, taken_within, taken_fits}
+use Rattle.operator_lowering.proofs.Accumulations as Accumulations
+use Rattle.operator_lowering.proofs.Reductions as Reductions
+use Rattle.operator_lowering.proofs.Accumulations.{no_first, no_second}
+use Rattle.operator_lowering.proofs.SumCourses.{up_exact, up_wrapped, down_exact, down_wrapped, up_by, up_past, down_by, down_past}
+use Rattle.operator_lowering.proofs.Products.{twice_of, twice_exact, twice_past, not_past, not_past_below, past, not_past_kept}
+use Rattle.operator_lowering.proofs.Rounding.{rounding, rounding_clamp, rounding_flag, rounding_set, plain_rounding}
+use Rattle.operator_lowering.proofs.Trees.{by_test, by_turned, ends, ends_same, ends_kept, ends_changed, one}
+
+-- ---- sums
+
+pub l_mac : (form : Form) (guard : Guard) → IsCourse (Call op.LMac) form guard
+l_mac Plain guard site a b c flag input small asked =
+    ends_same (Accumulations.plain_keeps a b c asked.fit.0 asked.fit.1.0 asked.fit.1.1.0 (asked.unclipped refl)).0
+l_mac Clamp guard site a b c flag input small asked =
+    let fx = asked.fit.0 in
+    let fa = asked.fit.1.0 in
+    let fb = asked.fit.1.1.0 in
+    let two = twice_of b c in
+    by_test (less two (pos 0))
+    (λ e. by_turned (less (multiplied b c) (pos 0))
+    (λ p. by_test (less (added a two) a) (λ f. ends_same (Accumulations.down_keeps a b c fx fa fb e p f).0) (λ f. ends_same (Accumulations.down_changes a b c fx fa fb e p f).0))
+    (λ p. by_turned (less (pos 0) a) (λ f. ends_same (Accumulations.corner_high a b c fx fa fb e p f).0) (λ f. ends_same (Accumulations.corner_low a b c fx fa fb e p f).0)))
+    (λ e. by_turned (less (added a two) a) (λ f. ends_same (Accumulations.up_changes a b c fx fa fb e f).0) (λ f. ends_same (Accumulations.up_keeps a b c fx fa fb e f).0))
+l_mac Flag guard site a b c flag input small asked =
+    let fx = asked.fit.0 in
+    let fa = asked.fit.1.0 in
+    let fb = asked.fit.1.1.0 in
+    let two = twice_of b c in
+    let clip = accumulation_clips a b c in
+    by_test (less two (pos 0))
+    (λ e. by_turned (less (multiplied b c) (pos 0))
+    (λ p. by_test (less (added a two) a) (λ f. let k = Accumulations.down_keeps a b c fx fa fb e p f in ends_kept flag clip k.0 k.1) (λ f. let k = Accumulations.down_changes a b c fx fa fb e p f in ends_changed flag clip k.0 k.1))
+    (λ p. by_turned (less (pos 0) a) (λ f. let k = Accumulations.corner_high a b c fx fa fb e p f in ends_changed flag clip k.0 k.1) (λ f. let k = Accumulations.corner_low a b c fx fa fb e p f in ends_changed flag clip k.0 k.1)))
+    (λ e. by_turned (less (added a two) a) (λ f. let k = Accumulations.up_changes a b c fx fa fb e f in ends_changed flag clip k.0 k.1) (λ f. let k = Accumulations.up_keeps a b c fx fa fb e f in ends_kept flag clip k.0 k.1))
+
+module _ (a b c : ℤ) (fx : FitsSigned w32 a) (fa : FitsSigned w16 b) (fb : FitsSigned w16 c) (flag : ℤ) (input : List ℤ) where
+  mac_r_fits : FitsSigned w32 (accumulated a b c)
+  mac_r_fits = clip_fits (a +ℤ clip32 (product_of b c))
+
+  -- the rounding of a value between, by what became of Overflow before
+  mac_r_clamp : {v : ℤ} → v ≡ accumulated a b c → rounding v flag flag input ≡ Ends (rounded (accumulated a b c)) flag input
+  mac_r_clamp {v} is = ap (λ w. rounding w flag flag input) is ∙ rounding_clamp (accumulated a b c) mac_r_fits flag input
+
+  abbrev mac_r_clips : Bool
+  mac_r_clips = accumulation_clips a b c || rounding_clips (accumulated a b c)
+
+  mac_r_kept : {v : ℤ} → v ≡ accumulated a b c → accumulation_clips a b c ≡ false → rounding v flag (added (pos 0) (pos 1)) input ≡ Ends (rounded (accumulated a b c)) (if mac_r_clips then pos 1 else flag) input
+  mac_r_kept {v} is none =
+      ap (λ w. rounding w flag (added (pos 0) (pos 1)) input) is ∙ rounding_flag (accumulated a b c) mac_r_fits flag input
+      ∙ ap (λ m. Ends (rounded (accumulated a b c)) (if m || rounding_clips (accumulated a b c) then pos 1 else flag) input) (sym none)
+
+  mac_r_changed : {v : ℤ} → v ≡ accumulated a b c → accumulation_clips a b c ≡ true → rounding v (added (pos 0) (pos 1)) (added (pos 0) (pos 1)) input ≡ Ends (rounded (accumulated a b c)) (if mac_r_clips then pos 1 else flag) input
+  mac_r_changed {v} is some =
+      ap (λ w. rounding w (added (pos 0) (pos 1)) (added (pos 0) (pos 1)) input) is ∙ rounding_set (accumulated a b c) mac_r_fits input
+      ∙ ap (λ m. Ends (rounded (accumulated a b c)) (if m || rounding_clips (accumulated a b c) then pos 1 else flag) input) (sym some)
+
+pub mac_r : (form : Form) (guard : Guard) → IsCourse (Call op.MacR) form guard
+mac_r Plain guard site a b c flag input small asked =
+    let k = Accumulations.plain_keeps a b c asked.fit.0 asked.fit.1.0 asked.fit.1.1.0 (no_first _ _ (asked.unclipped refl)) in
+    ends_same (ap (λ v. to_right_signed (added v (upper 8)) 16) k.0 ∙ plain_rounding (accumulated a b c) (clip_fits (a +ℤ clip32 (product_of b c))) (no_second _ _ (asked.unclipped refl)))
+mac_r Clamp guard site a b c flag input small asked =
+    let fx = asked.fit.0 in
+    let fa = asked.fit.1.0 in
+    let fb = asked.fit.1.1.0 in
+    let two = twice_of b c in
+    by_test (less two (pos 0))
+    (λ e. by_turned (less (multiplied b c) (pos 0))
+    (λ p. by_test (less (added a two) a) (λ f. mac_r_clamp a b c fx fa fb flag input (Accumulations.down_keeps a b c fx fa fb e p f).0) (λ f. mac_r_clamp a b c fx fa fb flag input (Accumulations.down_changes a b c fx fa fb e p f).0))
+    (λ p. by_turned (less (pos 0) a) (λ f. mac_r_clamp a b c fx fa fb flag input (Accumulations.corner_high a b c fx fa fb e p f).0) (λ f. mac_r_clamp a b c fx fa fb flag input (Accumulations.corner_low a b c fx fa fb e p f).0)))
+    (λ e. by_turned (less (added a two) a) (λ f. mac_r_clamp a b c fx fa fb flag input (Accumulations.up_changes a b c fx fa fb e f).0) (λ f. mac_r_clamp a b c fx fa fb flag input (Accumulations.up_keeps a b c fx fa fb e f).0))
+mac_r Flag guard site a b c flag input small asked =
+    let fx = asked.fit.0 in
+    let fa = asked.fit.1.0 in
+    let fb = asked.fit.1.1.0 in
+    let two = twice_of b c in
+    by_test (less two (pos 0))
+    (λ e. by_turned (less (multiplied b c) (pos 0))
+    (λ p. by_test (less (added a two) a) (λ f. let k = Accumulations.down_keeps a b c fx fa fb e p f in mac_r_kept a b c fx fa fb flag input k.0 k.1) (λ f. let k = Accumulations.down_changes a b c fx fa fb e p f in mac_r_changed a b c fx fa fb flag input k.0 k.1))
+    (λ p. by_turned (less (pos 0) a) (λ f. let k = Accumulations.corner_high a b c fx fa fb e p f in mac_r_changed a b c fx fa fb flag input k.0 k.1) (λ f. let k = Accumulations.corner_low a b c fx fa fb e p f in mac_r_changed a b c fx fa fb flag input k.0 k.1)))
+    (λ e. by_turned (less (added a two) a) (λ f. let k = Accumulations.up_changes a b c fx fa fb e f in mac_r_changed a b c fx fa fb flag input k.0 k.1) (λ f. let k = Accumulations.up_keeps a b c fx fa fb e f in mac_r_kept a b c fx fa fb flag input k.0 k.1))
+
+-- ---- the operand alone
+
+pub round : (form : Form) (guard : Guard) → IsCourse (Call op.Round) form guard
+round Plain guard site a b c flag input small asked = ends_same (plain_rounding a asked.fit.0 (asked.unclipped refl))
+round Clamp guard site a b c flag input small asked = rounding_clamp a asked.fit.0 flag input
+round Flag guard site a b c flag input small asked = rounding_flag a asked.fit.0 flag input
+
+-- ---- differences
+
+pub l_msu : (form : Form) (guard : Guard) → IsCourse (Call op.LMsu) form guard
+l_msu Plain guard site a b c flag input small asked =
+    ends_same (Reductions.plain_keeps a b c asked.fit.0 asked.fit.1.0 asked.fit.1.1.0 (asked.unclipped refl)).0
+l_msu Clamp guard site a b c flag input small asked =
+    let fx = asked.fit.0 in
+    let fa = asked.fit.1.0 in
+    let fb = asked.fit.1.1.0 in
+    let two = twice_of b c in
+    by_test (less two (pos 0))
+    (λ e. by_turned (less (multiplied b c) (pos 0))
+    (λ p. by_test (less a (taken a two)) (λ f. ends_same (Reductions.down_keeps a b c fx fa fb e p f).0) (λ f. ends_same (Reductions.down_changes a b c fx fa fb e p f).0))
+    (λ p. by_turned (less a (added (pos 0) (negsuc 0))) (λ f. ends_same (Reductions.corner_low a b c fx fa fb e p f).0) (λ f. ends_same (Reductions.corner_high a b c fx fa fb e p f).0)))
+    (λ e. by_turned (less a (taken a two)) (λ f. ends_same (Reductions.up_changes a b c fx fa fb e f).0) (λ f. ends_same (Reductions.up_keeps a b c fx fa fb e f).0))
+l_msu Flag guard site a b c flag input small asked =
+    let fx = asked.fit.0 in
+    let fa = asked.fit.1.0 in
+    let fb = asked.fit.1.1.0 in
+    let two = twice_of b c in
+    let clip = reduction_clips a b c in
+    by_test (less two (pos 0))
+    (λ e. by_turned (less (multiplied b c) (pos 0))
+    (λ p. by_test (less a (taken a two)) (λ f. let k = Reductions.down_keeps a b c fx fa fb e p f in ends_kept flag clip k.0 k.1) (λ f. let k = Reductions.down_changes a b c fx fa fb e p f in ends_changed flag clip k.0 k.1))
+    (λ p. by_turned (less a (added (pos 0) (negsuc 0))) (λ f. let k = Reductions.corner_low a b c fx fa fb e p f in ends_changed flag clip k.0 k.1) (λ f. let k = Reductions.corner_high a b c fx fa fb e p f in ends_changed flag clip k.0 k.1)))
+    (λ e. by_turned (less a (taken a two)) (λ f. let k = Reductions.up_changes a b c fx fa fb e f in ends_changed flag clip k.0 k.1) (λ f. let k = Reductions.up_keeps a b c fx fa fb e f in ends_kept flag clip k.0 k.1))
+
+module _ (a b c : ℤ) (fx : FitsSigned w32 a) (fa : FitsSigned w16 b) (fb : FitsSigned w16 c) (flag : ℤ) (input : List ℤ) where
+  msu_r_fits : FitsSigned w32 (reduced a b c)
+  msu_r_fits = clip_fits (a -ℤ clip32 (product_of b c))
+
+  -- the rounding of a value between, by what became of Overflow before
+  msu_r_clamp : {v : ℤ} → v ≡ reduced a b c → rounding v flag flag input ≡ Ends (rounded (reduced a b c)) flag input
+  msu_r_clamp {v} is = ap (λ w. rounding w flag flag input) is ∙ rounding_clamp (reduced a b c) msu_r_fits flag input
+
+  abbrev msu_r_clips : Bool
+  msu_r_clips = reduction_clips a b c || rounding_clips (reduced a b c)
+
+  msu_r_kept : {v : ℤ} → v ≡ reduced a b c → reduction_clips a b c ≡ false → rounding v flag (added (pos 0) (pos 1)) input ≡ Ends (rounded (reduced a b c)) (if msu_r_clips then pos 1 else flag) input
+  msu_r_kept {v} is none =
+      ap (λ w. rounding w flag (added (pos 0) (pos 1)) input) is ∙ rounding_flag (reduced a b c) msu_r_fits flag input
+      ∙ ap (λ m. Ends (rounded (reduced a b c)) (if m || rounding_clips (reduced a b c) then pos 1 else flag) input) (sym none)
+
+  msu_r_changed : {v : ℤ} → v ≡ reduced a b c → reduction_clips a b c ≡ true → rounding v (added (pos 0) (pos 1)) (added (pos 0) (pos 1)) input ≡ Ends (rounded (reduced a b c)) (if msu_r_clips then pos 1 else flag) input
+  msu_r_changed {v} is some =
+      ap (λ w. rounding w (added (pos 0) (pos 1)) (added (pos 0) (pos 1)) input) is ∙ rounding_set (reduced a b c) msu_r_fits input
+      ∙ ap (λ m. Ends (rounded (reduced a b c)) (if m || rounding_clips (reduced a b c) then pos 1 else flag) input) (sym some)
+
+pub msu_r : (form : Form) (guard : Guard) → IsCourse (Call op.MsuR) form guard
+msu_r Plain guard site a b c flag input small asked =
+    let k = Reductions.plain_keeps a b c asked.fit.0 asked.fit.1.0 asked.fit.1.1.0 (no_first _ _ (asked.unclipped refl)) in
+    ends_same (ap (λ v. to_right_signed (added v (upper 8)) 16) k.0 ∙ plain_rounding (reduced a b c) (clip_fits (a -ℤ clip32 (product_of b c))) (no_second _ _ (asked.unclipped refl)))
+msu_r Clamp guard site a b c flag input small asked =
+    let fx = asked.fit.0 in
+    let fa = asked.fit.1.0 in
+    let fb = asked.fit.1.1.0 in
+    let two = twice_of b c in
+    by_test (less two (pos 0))
+    (λ e. by_turned (less (multiplied b c) (pos 0))
+    (λ p. by_test (less a (taken a two)) (λ f. msu_r_clamp a b c fx fa fb flag input (Reductions.down_keeps a b c fx fa fb e p f).0) (λ f. msu_r_clamp a b c fx fa fb flag input (Reductions.down_changes a b c fx fa fb e p f).0))
+    (λ p. by_turned (less a (added (pos 0) (negsuc 0))) (λ f. msu_r_clamp a b c fx fa fb flag input (Reductions.corner_low a b c fx fa fb e p f).0) (λ f. msu_r_clamp a b c fx fa fb flag input (Reductions.corner_high a b c fx fa fb e p f).0)))
+    (λ e. by_turned (less a (taken a two)) (λ f. msu_r_clamp a b c fx fa fb flag input (Reductions.up_changes a b c fx fa fb e f).0) (λ f. msu_r_clamp a b c fx fa fb flag input (Reductions.up_keeps a b c fx fa fb e f).0))
+msu_r Flag guard site a b c flag input small asked =
+    let fx = asked.fit.0 in
+    let fa = asked.fit.1.0 in
+    let fb = asked.fit.1.1.0 in
+    let two = twice_of b c in
+    by_test (less two (pos 0))
+    (λ e. by_turned (less (multiplied b c) (pos 0))
+    (λ p. by_test (less a (taken a two)) (λ f. let k = Reductions.down_keeps a b c fx fa fb e p f in msu_r_kept a b c fx fa fb flag input k.0 k.1) (λ f. let k = Reductions.down_changes a b c fx fa fb e p f in msu_r_changed a b c fx fa fb flag input k.0 k.1))
+    (λ p. by_turned (less a (added (pos 0) (negsuc 0))) (λ f. let k = Reductions.corner_low a b c fx fa fb e p f in msu_r_changed a b c fx fa fb flag input k.0 k.1) (λ f. let k = Reductions.corner_high a b c fx fa fb e p f in msu_r_changed a b c fx fa fb flag input k.0 k.1)))
+    (λ e. by_turned (less a (taken a two)) (λ f. let k = Reductions.up_changes a b c fx fa fb e f in msu_r_changed a b c fx fa fb flag input k.0 k.1) (λ f. let k = Reductions.up_keeps a b c fx fa fb e f in msu_r_kept a b c fx fa fb flag input k.0 k.1))

@@ -1,0 +1,124 @@
+-- Sums with twice a product, and their clips.
+use Rattle.std.proofs.Common.{◌≡◌, ◌≢◌, ℕ, ℤ, pos, negsuc, ◌+ℤ◌, ◌-ℤ◌, ◌*ℤ◌, ◌≤ℤ◌, ◌<ℤ◌, Bool, true, false, ◌||◌, if◌then◌else◌, refl, sym, ap, ◌∙◌, subst, arith}
+use Rattle.std.specs.Prelude.{FitsSigned}
+use Rattle.std.specs.Int.{w16, w32}
+use Rattle.std.proofs.lemmas.Int.{ints}
+use Rattle.sat_base.specs.Clip.{clip16, clip32}
+use Rattle.operator_meaning.specs.Clipping.{changes32, accumulation_clips, reduction_clips, rounding_clips}
+use Rattle.operator_meaning.specs.Value.{product_of, accumulated, reduced, rounded}
+use Rattle.operator_meaning.specs.declared.operator.Op.TheVariants as op
+use Rattle.operator_meaning.specs.declared.site.SiteKind.TheVariants.{Call}
+use Rattle.operator_meaning.specs.declared.site.Form.{Form}
+use Rattle.operator_meaning.specs.declared.site.Form.TheVariants.{Plain, Clamp, Flag}
+use Rattle.operator_meaning.specs.declared.site.Guard.{Guard}
+use Rattle.template_runs.specs.Values.{added, taken, less, multiplied, to_left, to_right_signed, upper}
+use Rattle.operator_lowering.specs.Courses.{IsCourse}
+use Rattle.operator_lowering.proofs.Numbers.{less_true, less_false, kept32, above32, below32, range_of_kept32}
+use Rattle.operator_lowering.proofs.Sums.{IsExact, IsWrapped, other_end, added_within, added_fits, taken_within, taken_fits}
+use Rattle.operator_lowering.proofs.SumCourses.{up_exact, up_wrapped, down_exact, down_wrapped, up_by, up_past, down_by, down_past}
+use Rattle.operator_lowering.proofs.Products.{twice_of, twice_exact, twice_past, not_past, not_past_below, past, not_past_kept}
+use Rattle.operator_lowering.proofs.Rounding.{rounding, rounding_clamp, rounding_flag, rounding_set, plain_rounding}
+use Rattle.operator_lowering.proofs.Trees.{by_test, by_turned, ends, ends_same, ends_kept, ends_changed, one}
+
+pub greatest : added (upper 0x80000) (negsuc 0) ≡ pos 2147483647
+unfolding added upper
+greatest = refl
+
+all_ones : added (added (upper 0x80000) (negsuc 0)) (pos 0) ≡ pos 2147483647
+unfolding added upper
+all_ones = refl
+
+pub minus_one : added (pos 0) (negsuc 0) ≡ negsuc 0
+unfolding added
+minus_one = refl
+
+pub least : upper 0x80000 ≡ negsuc 2147483647
+unfolding upper
+least = refl
+
+pub fits_greatest : FitsSigned w32 (pos 2147483647)
+fits_greatest = grind (arith, ints)
+
+-- neither of two clips changes a number, or one does
+pub neither : {m n : Bool} → m ≡ false → n ≡ false → (m || n) ≡ false
+neither {m} {n} e f = ap (λ x. x || n) e ∙ f
+
+pub second : {m n : Bool} → m ≡ false → n ≡ true → (m || n) ≡ true
+second {m} {n} e f = ap (λ x. x || n) e ∙ f
+
+pub first : (m n : Bool) → m ≡ true → (m || n) ≡ true
+first m n e = ap (λ x. x || n) e
+
+pub no_first : (m n : Bool) → (m || n) ≡ false → m ≡ false
+no_first false n e = refl
+no_first true n e = absurd (let f = e in cc)
+
+pub no_second : (m n : Bool) → (m || n) ≡ false → n ≡ false
+no_second false n e = e
+no_second true n e = absurd (let f = e in cc)
+
+-- ---- sums
+
+module _ (x a b : ℤ) (fits_x : FitsSigned w32 x) (fits_a : FitsSigned w16 a) (fits_b : FitsSigned w16 b) where
+  abbrev two : ℤ
+  two = twice_of a b
+
+  abbrev sum : ℤ
+  sum = added x two
+
+  -- a value of the words, and whether they set Overflow
+  abbrev Keeps : ℤ → Type 0
+  Keeps v = (v ≡ accumulated x a b) × (accumulation_clips x a b ≡ false)
+
+  abbrev Changes : ℤ → Type 0
+  Changes v = (v ≡ accumulated x a b) × (accumulation_clips x a b ≡ true)
+
+  of_exact : (a *ℤ b) <ℤ pos 1073741824 → (FitsSigned w32 two → IsExact (x +ℤ two) sum) → Keeps sum
+  of_exact fewer k =
+      let t = twice_exact a b fits_a fits_b fewer in
+      let e = k t.2 in
+      (e.0 ∙ ap (λ y. clip32 (x +ℤ y)) t.0, neither t.1 (ap (λ y. changes32 (x +ℤ y)) (sym t.0) ∙ e.1))
+
+  of_wrapped : (a *ℤ b) <ℤ pos 1073741824 → (FitsSigned w32 two → IsWrapped (x +ℤ two) sum) → Changes (other_end sum)
+  of_wrapped fewer k =
+      let t = twice_exact a b fits_a fits_b fewer in
+      let e = k t.2 in
+      (e.0 ∙ ap (λ y. clip32 (x +ℤ y)) t.0, second t.1 (ap (λ y. changes32 (x +ℤ y)) (sym t.0) ∙ e.1))
+
+  pub up_keeps : less two (pos 0) ≡ false → less sum x ≡ false → Keeps sum
+  up_keeps e f = of_exact (not_past a b fits_a fits_b e) (λ fits. up_exact x two fits_x fits e f)
+
+  pub up_changes : less two (pos 0) ≡ false → less sum x ≡ true → Changes (other_end sum)
+  up_changes e f = of_wrapped (not_past a b fits_a fits_b e) (λ fits. up_wrapped x two fits_x fits e f)
+
+  pub down_keeps : less two (pos 0) ≡ true → less (multiplied a b) (pos 0) ≡ true → less sum x ≡ true → Keeps sum
+  down_keeps e p f = of_exact (not_past_below a b fits_a fits_b p) (λ fits. down_exact x two fits_x fits e f)
+
+  pub down_changes : less two (pos 0) ≡ true → less (multiplied a b) (pos 0) ≡ true → less sum x ≡ false → Changes (other_end sum)
+  down_changes e p f = of_wrapped (not_past_below a b fits_a fits_b p) (λ fits. down_wrapped x two fits_x fits e f)
+
+  -- where twice the product is 2^31
+  pub corner_low : less two (pos 0) ≡ true → less (multiplied a b) (pos 0) ≡ false → less (pos 0) x ≡ false → Changes (added x (added (upper 0x80000) (negsuc 0)))
+  corner_low e p f =
+      let t = twice_past a b fits_a fits_b (past a b fits_a fits_b e p) in
+      let range = within (less_false _ _ f) in
+      (ap (added x) greatest ∙ added_within x (pos 2147483647) fits_x fits_greatest range.0 range.1 ∙ (kept32 (x +ℤ pos 2147483647) range.0 range.1).0 ∙ ap (λ y. clip32 (x +ℤ y)) t.1, first _ _ t.2)
+    where
+      within : x ≤ℤ pos 0 → (negsuc 2147483647 ≤ℤ (x +ℤ pos 2147483647)) × ((x +ℤ pos 2147483647) ≤ℤ pos 2147483647)
+      within high = (grind (arith, ints), grind (arith, ints))
+
+  pub corner_high : less two (pos 0) ≡ true → less (multiplied a b) (pos 0) ≡ false → less (pos 0) x ≡ true → Changes (added (added (upper 0x80000) (negsuc 0)) (pos 0))
+  corner_high e p f =
+      let t = twice_past a b fits_a fits_b (past a b fits_a fits_b e p) in
+      (all_ones ∙ (above32 (x +ℤ pos 2147483647) (over (less_true _ _ f))).0 ∙ ap (λ y. clip32 (x +ℤ y)) t.1, first _ _ t.2)
+    where
+      over : pos 0 <ℤ x → pos 2147483647 <ℤ (x +ℤ pos 2147483647)
+      over low = grind (arith, ints)
+
+  -- where no clip changes a number
+  pub plain_keeps : accumulation_clips x a b ≡ false → (sum ≡ accumulated x a b) × FitsSigned w32 sum
+  plain_keeps none =
+      let t = twice_exact a b fits_a fits_b (not_past_kept a b fits_a fits_b (no_first _ _ none)) in
+      let range = range_of_kept32 (x +ℤ clip32 (product_of a b)) (no_second _ _ none) in
+      let inside = subst (λ y. (negsuc 2147483647 ≤ℤ (x +ℤ y)) × ((x +ℤ y) ≤ℤ pos 2147483647)) (sym t.0) range in
+      (added_within x two fits_x t.2 inside.0 inside.1 ∙ ap (λ y. x +ℤ y) t.0 ∙ (kept32 (x +ℤ clip32 (product_of a b)) range.0 range.1).0, added_fits x two fits_x t.2)

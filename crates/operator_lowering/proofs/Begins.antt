@@ -1,0 +1,135 @@
+-- The way in which the words of a site begin, over any registers.
+use Rattle.std.proofs.Common.{◌≡◌, ◌≢◌, ℕ, zero, suc, ◌+◌, ◌<◌, ◌≤◌, ◌⊎◌, inl, inr, ℤ, pos, Bool, true, false, not, ◌&&◌, ◌==◌, if◌then◌else◌, List, [], ◌∷◌, ◌++◌, length, refl, sym, ap, ◌∙◌, subst, arith, ⊎_elim}
+use Rattle.std.specs.Prelude.{FitsSigned, All}
+use Rattle.std.specs.Int.{w32}
+use Rattle.std.proofs.lemmas.Bool.{eqb-true, eq-eqb}
+use Rattle.rv_encode.specs.declared.instruction.Instr.{Instr}
+use Rattle.rv_encode.specs.State.{MachineState, register}
+use Rattle.template_runs.specs.declared.registers.Registers.{Registers}
+use Rattle.template_runs.specs.Copies.{IsCopied}
+use Rattle.template_runs.specs.Courses.{Final, runs}
+use Rattle.template_runs.specs.Machine.{StandHere, IsBefore, begun}
+use Rattle.template_runs.specs.Renaming.{AreInRange, IsPlace, all_over}
+use Rattle.operator_lowering.specs.Courses.{apart_of, is_moved}
+use Rattle.operator_lowering.specs.Template.{ArePlaces}
+use Rattle.operator_lowering.specs.declared.way.Way.{Way}
+use Rattle.operator_lowering.specs.declared.way.Way.TheVariants.{Straight, Moves, KeepsFirst, KeepsThird, Turns}
+use Rattle.operator_lowering.specs.Words.{front, places, copy, keeps_first, turns}
+use Rattle.operator_lowering.proofs.Ways.{Done, straight, copied_first}
+
+in_range : (regs : Registers) → ArePlaces regs → AreInRange regs
+in_range regs p = record { result = p.result; first = inl p.first; second = inl p.second; third = inl p.third }
+
+differ : (a b : ℕ) → (a == b) ≡ false → a ≢ b
+differ a b e same = let t = eq-eqb a b same in absurd (let f = e in cc)
+
+not_x0 : (n : ℕ) → IsPlace n → n ≢ 0
+not_x0 n place e = let low = place.0 in absurd (omega arith)
+
+not_28 : (n : ℕ) → IsPlace n → n ≢ 28
+not_28 n place e = let high = place.1 in absurd (omega arith)
+
+no_moved : {P : Type 0} → false ≡ true → P
+no_moved {P} e = absurd (let f = e in cc)
+
+same_course : (words : List Instr) (apart : ℕ) (calls moved : Bool) (a b c f a' b' c' f' : ℤ) (i i' : List ℤ) → a ≡ a' → b ≡ b' → c ≡ c' → f ≡ f' → i ≡ i'
+    → runs words 0 (begun apart calls moved a b c f i) ≡ runs words 0 (begun apart calls moved a' b' c' f' i')
+same_course words apart calls moved a b c f a' b' c' f' i i' ea eb ec ef ei =
+    ap (λ x. runs words 0 (begun apart calls moved x b c f i)) ea ∙ ap (λ x. runs words 0 (begun apart calls moved a' x c f i)) eb
+    ∙ ap (λ x. runs words 0 (begun apart calls moved a' b' x f i)) ec ∙ ap (λ x. runs words 0 (begun apart calls moved a' b' c' x i)) ef
+    ∙ ap (λ x. runs words 0 (begun apart calls moved a' b' c' f' x)) ei
+
+-- what a way asks of the operands that it copies
+abbrev pub Needs : Way → (a c : ℤ) → Type 0
+Needs Straight a c = Unit {0}
+Needs KeepsThird a c = FitsSigned w32 c
+Needs way a c = FitsSigned w32 a
+
+-- what a way asks of the course: after a move of the only operand, of any others; where operands may be turned, of both
+-- orders
+abbrev pub LeadsBy : Way → (calls : Bool) → List Instr → (a b c flag : ℤ) → List ℤ → Final → Type 0
+LeadsBy Straight calls words a b c flag input final = runs words 0 (begun 0 calls false a b c flag input) ≡ final
+LeadsBy Moves calls words a b c flag input final = (b' c' : ℤ) → runs words 0 (begun 0 calls true a b' c' flag input) ≡ final
+LeadsBy KeepsFirst calls words a b c flag input final = runs words 0 (begun 11 calls false a b c flag input) ≡ final
+LeadsBy KeepsThird calls words a b c flag input final = runs words 0 (begun 13 calls false a b c flag input) ≡ final
+LeadsBy Turns calls words a b c flag input final =
+    (runs words 0 (begun 11 calls false a b c flag input) ≡ final) × (runs words 0 (begun 11 calls false b a c flag input) ≡ final)
+
+module _ (regs : Registers) (calls : Bool) (words : List Instr) (code : List ℕ) (place : ℕ) (s : MachineState) (final : Final) (own : ArePlaces regs) (short : length words ≤ 90) (before : IsBefore place s) where
+  abbrev Finds : List Instr → Type 0
+  Finds ws = StandHere code place ws → Done regs.result calls code place ws s final
+
+  abbrev first : ℤ
+  first = register s regs.first
+
+  abbrev second : ℤ
+  second = register s regs.second
+
+  abbrev third : ℤ
+  third = register s regs.third
+
+  abbrev flag : ℤ
+  flag = register s 27
+
+  -- the first operand is kept, or it is apart from the result
+  keeps : FitsSigned w32 first → runs words 0 (begun 11 calls false first second third flag s.input) ≡ final → (b : Bool) → (regs.result == regs.first) ≡ b
+      → Finds ((if b then copy 28 regs.first else []) ++ all_over (if b then record regs { first = 28 } else regs) words)
+  keeps fits is false e stands = straight regs 11 calls false words code place s final (in_range regs own) (differ regs.result regs.first e) no_moved short stands before is
+  keeps fits is true e stands =
+      let kept : Registers = record regs { first = 28 } in
+      let range : AreInRange kept = record { result = own.result; first = inr refl; second = inl own.second; third = inl own.third } in
+      copied_first kept 28 regs.first 11 calls false words code place s final range (not_28 regs.result own.result) no_moved short (inr refl) fits stands before
+      (λ t copied.
+      same_course words 11 calls false (register t 28) (register t regs.second) (register t regs.third) (register t 27) first second third flag t.input s.input copied.copied
+      (copied.others regs.second (not_28 regs.second own.second)) (copied.others regs.third (not_28 regs.third own.third)) (copied.others 27 (λ f. absurd (omega arith))) copied.input
+      ∙ is)
+
+  keeps_third : FitsSigned w32 third → runs words 0 (begun 13 calls false first second third flag s.input) ≡ final → (b : Bool) → (regs.result == regs.third) ≡ b
+      → Finds ((if b then copy 28 regs.third else []) ++ all_over (if b then record regs { third = 28 } else regs) words)
+  keeps_third fits is false e stands = straight regs 13 calls false words code place s final (in_range regs own) (differ regs.result regs.third e) no_moved short stands before is
+  keeps_third fits is true e stands =
+      let kept : Registers = record regs { third = 28 } in
+      let range : AreInRange kept = record { result = own.result; first = inl own.first; second = inl own.second; third = inr refl } in
+      copied_first kept 28 regs.third 13 calls false words code place s final range (not_28 regs.result own.result) no_moved short (inr refl) fits stands before
+      (λ t copied.
+      same_course words 13 calls false (register t regs.first) (register t regs.second) (register t 28) (register t 27) first second third flag t.input s.input
+      (copied.others regs.first (not_28 regs.first own.first)) (copied.others regs.second (not_28 regs.second own.second)) copied.copied (copied.others 27 (λ f. absurd (omega arith))) copied.input
+      ∙ is)
+
+  moves : FitsSigned w32 first → ((b' c' : ℤ) → runs words 0 (begun 0 calls true first b' c' flag s.input) ≡ final) → (b : Bool) → (regs.result == regs.first) ≡ b
+      → Finds ((if b then [] else copy regs.result regs.first) ++ all_over (record regs { first = regs.result }) words)
+  moves fits is true e stands =
+      let moved : Registers = record regs { first = regs.result } in
+      let range : AreInRange moved = record { result = own.result; first = inl own.result; second = inl own.second; third = inl own.third } in
+      straight moved 0 calls true words code place s final range (not_x0 regs.result own.result) (λ f. refl) short stands before
+      (ap (λ n. runs words 0 (begun 0 calls true (register s n) second third flag s.input)) (eqb-true regs.result regs.first e) ∙ is second third)
+  moves fits is false e stands =
+      let moved : Registers = record regs { first = regs.result } in
+      let range : AreInRange moved = record { result = own.result; first = inl own.result; second = inl own.second; third = inl own.third } in
+      let high : regs.result ≤ 23 = own.result.1 in
+      copied_first moved regs.result regs.first 0 calls true words code place s final range (not_x0 regs.result own.result) (λ f. refl) short (inl refl) fits stands before
+      (λ t copied.
+      same_course words 0 calls true (register t regs.result) (register t regs.second) (register t regs.third) (register t 27) first (register t regs.second) (register t regs.third) flag t.input s.input copied.copied
+      refl refl (copied.others 27 (λ f. absurd (omega arith))) copied.input
+      ∙ is (register t regs.second) (register t regs.third))
+
+  turned : runs words 0 (begun 11 calls false second first third flag s.input) ≡ final → (regs.result == regs.second) ≡ false
+      → Finds ([] ++ all_over (record regs { first = regs.second; second = regs.first }) words)
+  turned is e stands =
+      let turn : Registers = record regs { first = regs.second; second = regs.first } in
+      let range : AreInRange turn = record { result = own.result; first = inl own.second; second = inl own.first; third = inl own.third } in
+      straight turn 11 calls false words code place s final range (differ regs.result regs.second e) no_moved short stands before is
+
+  turning : FitsSigned w32 first → runs words 0 (begun 11 calls false first second third flag s.input) ≡ final → runs words 0 (begun 11 calls false second first third flag s.input) ≡ final
+      → (b d : Bool) → (regs.result == regs.first) ≡ b → (regs.result == regs.second) ≡ d
+      → Finds ((if b && not d then [] else (if b then copy 28 regs.first else [])) ++ all_over (if b && not d then record regs { first = regs.second; second = regs.first } else (if b then record regs { first = 28 } else regs)) words)
+  turning fits is back true false e f stands = turned back f stands
+  turning fits is back true true e f stands = keeps fits is true e stands
+  turning fits is back false d e f stands = keeps fits is false e stands
+
+  pub begins : (way : Way) → Needs way first third → LeadsBy way calls words first second third flag s.input final → Finds (front way regs ++ all_over (places way regs) words)
+  begins Straight need lead stands = straight regs 0 calls false words code place s final (in_range regs own) (not_x0 regs.result own.result) no_moved short stands before lead
+  begins Moves need lead stands = moves need lead (regs.result == regs.first) refl stands
+  begins KeepsFirst need lead stands = keeps need lead (regs.result == regs.first) refl stands
+  begins KeepsThird need lead stands = keeps_third need lead (regs.result == regs.third) refl stands
+  begins Turns need lead stands = turning need lead.0 lead.1 (regs.result == regs.first) (regs.result == regs.second) refl refl stands

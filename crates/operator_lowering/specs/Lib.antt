@@ -1,0 +1,5 @@
+pub mod Template
+pub mod Sites
+pub mod Words
+pub mod Courses
+pub mod Laws

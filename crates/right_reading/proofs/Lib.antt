@@ -1,0 +1,14 @@
+pub mod Afters
+pub mod Alternatives
+pub mod Begins
+pub mod Dependent
+pub mod Endings
+pub mod Inlined
+pub mod Listed
+pub mod Many
+pub mod Rules
+pub mod Shifts
+pub mod Steps
+pub mod Stops
+pub mod Tokens
+pub mod Words

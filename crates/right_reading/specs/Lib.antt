@@ -1,0 +1,10 @@
+pub mod Lists
+pub mod ReadDeclarations
+pub mod ReadExpressions
+pub mod ReadSource
+pub mod ReadStatements
+pub mod Right
+pub mod RightExpressions
+pub mod RightTokens
+pub mod Stops
+pub mod Stream

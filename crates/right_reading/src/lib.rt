@@ -1,0 +1,9 @@
+// What it is to read tokens rightly: what the methods of the parser read at the front of the tokens, as functions on
+// lists, and when such a function reads what the grammar spells.
+#![tactic(auto)]
+
+mod laws;
+mod specifiers;
+
+pub use laws::tokens_are_read;
+pub use specifiers::{Qualifiers, Specifiers};

@@ -1,0 +1,7 @@
+pub mod Effects
+pub mod Names
+pub mod Steps
+pub mod Follows
+pub mod Fits
+pub mod Copies
+pub mod Plain

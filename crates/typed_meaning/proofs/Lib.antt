@@ -1,0 +1,3 @@
+pub mod Expressions
+pub mod SmallParts
+pub mod Statements

@@ -1,0 +1,4 @@
+pub mod Expressions
+pub mod Statements
+pub mod Observed
+pub mod Laws
