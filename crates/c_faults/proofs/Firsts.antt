@@ -10,7 +10,7 @@ use Rattle.c_faults.specs.Faults.{rows, limits, faults_at, faults_in}
 use Rattle.c_faults.specs.Told.{kept, first_of, first_among}
 
 -- pairs of numbers in the order of the first, and then of the second
-abbrev below : ℕ → ℕ → ℕ → ℕ → Bool
+abbrev pub below : ℕ → ℕ → ℕ → ℕ → Bool
 below t r u s = nat_lt t u || ((t == u) && nat_lt r s)
 
 below-below : (t r u s v w : ℕ) → below u s t r ≡ true → below v w u s ≡ true → below v w t r ≡ true
@@ -22,7 +22,7 @@ not_below t r u s v w first second = grind (arith, nat_tests)
 before-before : (a b c : Fault) → is_before b a ≡ true → is_before c b ≡ true → is_before c a ≡ true
 before-before a b c = below-below a.tok (rank_of a.kind) b.tok (rank_of b.kind) c.tok (rank_of c.kind)
 
-not_before : (a b c : Fault) → is_before b a ≡ false → is_before c b ≡ false → is_before c a ≡ false
+pub not_before : (a b c : Fault) → is_before b a ≡ false → is_before c b ≡ false → is_before c a ≡ false
 not_before a b c = not_below a.tok (rank_of a.kind) b.tok (rank_of b.kind) c.tok (rank_of c.kind)
 
 -- a choice between two, and then a third
