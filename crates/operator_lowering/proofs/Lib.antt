@@ -27,3 +27,4 @@ pub mod Begins
 pub mod Sound
 pub mod Ready
 pub mod Templates
+pub mod Puts

@@ -79,7 +79,7 @@ operator_ready op.LAdd Clamp guard site a b c flag input small asked = (
   (
     operator_course op.LAdd Clamp guard site a b c flag input small asked,
     operator_course op.LAdd Clamp guard site b a c flag input small (turned_asked Clamp guard a b c input asked)
-    ∙ ap (λ t. Ends (clip32 t) (flag_after Clamp (changes32 t) flag) input) (turn a b),
+        ∙ ap (λ t. Ends (clip32 t) (flag_after Clamp (changes32 t) flag) input) (turn a b),
   ),
 )
 operator_ready op.LAdd Flag guard site a b c flag input small asked = (
@@ -87,7 +87,7 @@ operator_ready op.LAdd Flag guard site a b c flag input small asked = (
   (
     operator_course op.LAdd Flag guard site a b c flag input small asked,
     operator_course op.LAdd Flag guard site b a c flag input small (turned_asked Flag guard a b c input asked)
-    ∙ ap (λ t. Ends (clip32 t) (flag_after Flag (changes32 t) flag) input) (turn a b),
+        ∙ ap (λ t. Ends (clip32 t) (flag_after Flag (changes32 t) flag) input) (turn a b),
   ),
 )
 operator_ready op.LSub Plain guard site a b c flag input small asked = (tt, operator_course op.LSub Plain guard site a b c flag input small asked)

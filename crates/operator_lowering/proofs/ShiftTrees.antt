@@ -105,7 +105,6 @@ at_most_0 x other =
     more : (x : ℤ) → pos 0 ≤ℤ x → x ≢ pos 0 → pos 0 <ℤ x
     more x low other = grind (arith, ints)
 
-
 -- ---- 16 bits
 
 module _ (x : ℤ) (n : ℕ) (fits : FitsSigned w16 x) where

@@ -16,7 +16,7 @@ use Rattle.template_runs.specs.Plainness.{are_plain}
 use Rattle.operator_lowering.specs.Template.{may_compare}
 use Rattle.operator_lowering.specs.declared.tables.halves.TheConstants.{NEGATE_PLAIN}
 use Rattle.operator_lowering.specs.declared.tables.products.TheConstants.{DIVIDE}
-use Rattle.operator_lowering.specs.Words.{site_words, is_small, bound_of, constant_words, stop_words, stop_size, checked_by, sum_check, difference_check, product_check, opposite_check, quotient_check, bound_check, view_check, edge_check, sample_check, sample_words}
+use Rattle.operator_lowering.specs.Words.{site_words, operator_words, is_small, bound_of, constant_words, stop_words, stop_size, checked_by, sum_check, difference_check, product_check, opposite_check, quotient_check, bound_check, view_check, edge_check, sample_check, sample_words}
 
 pub record IsSound (k : SiteKind) (form : Form) (guard : Guard) (words : List Instr) : Type 0 where
   pub fit : are_fit words ≡ true
@@ -44,15 +44,15 @@ lower_fits r less =
     (λ (high : 2048 ≤ r). let e : pos r -ℤ pos 2048 ≡ pos (r - 2048) = omega (arith, ints) in ap (is_near 2048) e ∙ lt-ltb _ _ (omega arith))
     (cases_lt r 2048)
 
-constant_fit5 : (small : Bool) (n : ℕ) → is_small n ≡ small → are_fit (constant_words small 5 n) ≡ true
+pub constant_fit5 : (small : Bool) (n : ℕ) → is_small n ≡ small → are_fit (constant_words small 5 n) ≡ true
 constant_fit5 true n e = ap (λ b. b && true) e
 constant_fit5 false n e = ap (λ b. b && (is_near 2048 (pos ((n + 2048) % 4096) -ℤ pos 2048) && true)) (upper_fits n) ∙ ap (λ b. b && true) (lower_fits ((n + 2048) % 4096) (omega arith))
 
-constant_fit10 : (small : Bool) (n : ℕ) → is_small n ≡ small → are_fit (constant_words small 10 n) ≡ true
+pub constant_fit10 : (small : Bool) (n : ℕ) → is_small n ≡ small → are_fit (constant_words small 10 n) ≡ true
 constant_fit10 true n e = ap (λ b. b && true) e
 constant_fit10 false n e = ap (λ b. b && (is_near 2048 (pos ((n + 2048) % 4096) -ℤ pos 2048) && true)) (upper_fits n) ∙ ap (λ b. b && true) (lower_fits ((n + 2048) % 4096) (omega arith))
 
-stop_fit : (small : Bool) (site : ℕ) → is_small site ≡ small → are_fit (stop_words small site) ≡ true
+pub stop_fit : (small : Bool) (site : ℕ) → is_small site ≡ small → are_fit (stop_words small site) ≡ true
 stop_fit small site e = fit_append (constant_words small 10 site) _ (constant_fit10 small site e) refl
 
 checked_fit : (check : ℕ → List Instr) (site : ℕ) → are_fit (check 12) ≡ true → are_fit (check 16) ≡ true → (small : Bool) → is_small site ≡ small → are_fit (checked_by small check site) ≡ true
@@ -220,3 +220,92 @@ sound (kind.Bound bound) form Kept site =
           (by_bool (λ b. length (checked_by b (bound_check false n) site) ≤ 90) (is_small site) (lit≤ tt) (lit≤ tt));
       plain = λ e g m. kept_plain g;
     }
+
+pub operator_fit : (o : Op) (form : Form) → (are_fit (operator_words o form) ≡ true) × (length (operator_words o form) ≤ 90)
+operator_fit op.Add Plain = (refl, lit≤ tt)
+operator_fit op.Add Clamp = (refl, lit≤ tt)
+operator_fit op.Add Flag = (refl, lit≤ tt)
+operator_fit op.Sub Plain = (refl, lit≤ tt)
+operator_fit op.Sub Clamp = (refl, lit≤ tt)
+operator_fit op.Sub Flag = (refl, lit≤ tt)
+operator_fit op.AbsS Plain = (refl, lit≤ tt)
+operator_fit op.AbsS Clamp = (refl, lit≤ tt)
+operator_fit op.AbsS Flag = (refl, lit≤ tt)
+operator_fit op.Shl Plain = (refl, lit≤ tt)
+operator_fit op.Shl Clamp = (refl, lit≤ tt)
+operator_fit op.Shl Flag = (refl, lit≤ tt)
+operator_fit op.Shr Plain = (refl, lit≤ tt)
+operator_fit op.Shr Clamp = (refl, lit≤ tt)
+operator_fit op.Shr Flag = (refl, lit≤ tt)
+operator_fit op.ExtractH Plain = (refl, lit≤ tt)
+operator_fit op.ExtractH Clamp = (refl, lit≤ tt)
+operator_fit op.ExtractH Flag = (refl, lit≤ tt)
+operator_fit op.ExtractL Plain = (refl, lit≤ tt)
+operator_fit op.ExtractL Clamp = (refl, lit≤ tt)
+operator_fit op.ExtractL Flag = (refl, lit≤ tt)
+operator_fit op.Mult Plain = (refl, lit≤ tt)
+operator_fit op.Mult Clamp = (refl, lit≤ tt)
+operator_fit op.Mult Flag = (refl, lit≤ tt)
+operator_fit op.LMult Plain = (refl, lit≤ tt)
+operator_fit op.LMult Clamp = (refl, lit≤ tt)
+operator_fit op.LMult Flag = (refl, lit≤ tt)
+operator_fit op.Negate Plain = (refl, lit≤ tt)
+operator_fit op.Negate Clamp = (refl, lit≤ tt)
+operator_fit op.Negate Flag = (refl, lit≤ tt)
+operator_fit op.Round Plain = (refl, lit≤ tt)
+operator_fit op.Round Clamp = (refl, lit≤ tt)
+operator_fit op.Round Flag = (refl, lit≤ tt)
+operator_fit op.LMac Plain = (refl, lit≤ tt)
+operator_fit op.LMac Clamp = (refl, lit≤ tt)
+operator_fit op.LMac Flag = (refl, lit≤ tt)
+operator_fit op.LMsu Plain = (refl, lit≤ tt)
+operator_fit op.LMsu Clamp = (refl, lit≤ tt)
+operator_fit op.LMsu Flag = (refl, lit≤ tt)
+operator_fit op.MacR Plain = (refl, lit≤ tt)
+operator_fit op.MacR Clamp = (refl, lit≤ tt)
+operator_fit op.MacR Flag = (refl, lit≤ tt)
+operator_fit op.MsuR Plain = (refl, lit≤ tt)
+operator_fit op.MsuR Clamp = (refl, lit≤ tt)
+operator_fit op.MsuR Flag = (refl, lit≤ tt)
+operator_fit op.LAdd Plain = (refl, lit≤ tt)
+operator_fit op.LAdd Clamp = (refl, lit≤ tt)
+operator_fit op.LAdd Flag = (refl, lit≤ tt)
+operator_fit op.LSub Plain = (refl, lit≤ tt)
+operator_fit op.LSub Clamp = (refl, lit≤ tt)
+operator_fit op.LSub Flag = (refl, lit≤ tt)
+operator_fit op.LNegate Plain = (refl, lit≤ tt)
+operator_fit op.LNegate Clamp = (refl, lit≤ tt)
+operator_fit op.LNegate Flag = (refl, lit≤ tt)
+operator_fit op.MultR Plain = (refl, lit≤ tt)
+operator_fit op.MultR Clamp = (refl, lit≤ tt)
+operator_fit op.MultR Flag = (refl, lit≤ tt)
+operator_fit op.LShl Plain = (refl, lit≤ tt)
+operator_fit op.LShl Clamp = (refl, lit≤ tt)
+operator_fit op.LShl Flag = (refl, lit≤ tt)
+operator_fit op.LShr Plain = (refl, lit≤ tt)
+operator_fit op.LShr Clamp = (refl, lit≤ tt)
+operator_fit op.LShr Flag = (refl, lit≤ tt)
+operator_fit op.ShrR Plain = (refl, lit≤ tt)
+operator_fit op.ShrR Clamp = (refl, lit≤ tt)
+operator_fit op.ShrR Flag = (refl, lit≤ tt)
+operator_fit op.LShrR Plain = (refl, lit≤ tt)
+operator_fit op.LShrR Clamp = (refl, lit≤ tt)
+operator_fit op.LShrR Flag = (refl, lit≤ tt)
+operator_fit op.LAbs Plain = (refl, lit≤ tt)
+operator_fit op.LAbs Clamp = (refl, lit≤ tt)
+operator_fit op.LAbs Flag = (refl, lit≤ tt)
+operator_fit op.LDepositH Plain = (refl, lit≤ tt)
+operator_fit op.LDepositH Clamp = (refl, lit≤ tt)
+operator_fit op.LDepositH Flag = (refl, lit≤ tt)
+operator_fit op.LDepositL Plain = (refl, lit≤ tt)
+operator_fit op.LDepositL Clamp = (refl, lit≤ tt)
+operator_fit op.LDepositL Flag = (refl, lit≤ tt)
+operator_fit op.NormS Plain = (refl, lit≤ tt)
+operator_fit op.NormS Clamp = (refl, lit≤ tt)
+operator_fit op.NormS Flag = (refl, lit≤ tt)
+operator_fit op.NormL Plain = (refl, lit≤ tt)
+operator_fit op.NormL Clamp = (refl, lit≤ tt)
+operator_fit op.NormL Flag = (refl, lit≤ tt)
+operator_fit op.DivS Plain = (refl, lit≤ tt)
+operator_fit op.DivS Clamp = (refl, lit≤ tt)
+operator_fit op.DivS Flag = (refl, lit≤ tt)

@@ -1,4 +1,5 @@
 pub mod Template
+pub mod Registers
 pub mod Sites
 pub mod Words
 pub mod Courses

@@ -1,6 +1,15 @@
 // The words of sites.
 #![tactic(auto)]
 
+mod checks;
 pub mod laws;
+pub mod making;
+mod operators;
+pub mod site_registers;
 mod tables;
 pub mod way;
+pub mod words;
+
+pub use making::regs;
+pub use site_registers::Regs;
+pub use words::Words;

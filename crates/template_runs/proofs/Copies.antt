@@ -1,10 +1,9 @@
 -- A register is copied.
-use Rattle.std.proofs.Common.{◌≡◌, ◌≢◌, ℕ, ◌+◌, ◌<◌, ◌≤◌, ℤ, pos, List, [], ◌∷◌, length, refl, sym, ap, ◌∙◌, subst, arith}
-use Rattle.std.specs.Prelude.{FitsSigned, slice_index_or}
+use Rattle.std.proofs.Common.{◌≡◌, ◌+◌, ◌<◌, ◌≤◌, ℤ, pos, [], ◌∷◌, length, refl, sym, ap, ◌∙◌, arith}
+use Rattle.std.specs.Prelude.{FitsSigned}
 use Rattle.std.specs.Int.{w32, int_wrapping_add}
 use Rattle.std.proofs.lemmas.Int.{ints}
 use Rattle.std.proofs.lemmas.List.Elements.{All-head}
-use Rattle.rv_encode.specs.declared.instruction.Instr.{Instr}
 use Rattle.rv_encode.specs.declared.instruction.Instr.TheVariants.{Addi}
 use Rattle.rv_encode.specs.State.{MachineState, Running, register, registers_with, next_pc}
 use Rattle.rv_encode.specs.Effects.{sets}
@@ -12,8 +11,7 @@ use Rattle.rv_encode.specs.Runs.{pc_of, next_moment, executed, carried_out}
 use Rattle.rv_encode.specs.Words.{Fits}
 use Rattle.rv_encode.proofs.Encodings.{encoded_decodes}
 use Rattle.rv_encode.proofs.Places.{fetched_at, next_pc_of}
-use Rattle.template_runs.specs.Copies.{IsCopied, AddsCopy}
-use Rattle.template_runs.specs.Machine.{IsBefore}
+use Rattle.template_runs.specs.Copies.{AddsCopy}
 use Rattle.template_runs.proofs.Steps.{count_with, same_with, other_with}
 
 none_added : (v : ℤ) → FitsSigned w32 v → int_wrapping_add w32 v (pos 0) ≡ v

@@ -1,6 +1,6 @@
 -- The fields of instructions over the registers of a site.
-use Rattle.std.proofs.Common.{◌≡◌, ℕ, ◌<◌, ◌%◌, ◌⊎◌, ℤ, pos, negsuc, Bool, true, ◌&&◌, ◌==◌, nat_lt, List, [], ◌∷◌, sym, ap, ◌∙◌, arith, ⊎_elim}
-use Rattle.std.specs.Prelude.{All, IsTrue}
+use Rattle.std.proofs.Common.{◌≡◌, ℕ, ◌<◌, ◌%◌, ℤ, pos, negsuc, true, ◌&&◌, nat_lt, List, [], ◌∷◌, arith, ⊎_elim}
+use Rattle.std.specs.Prelude.{All}
 use Rattle.std.specs.Int.{w32, cast_unsigned}
 use Rattle.std.proofs.lemmas.Bool.{eqb-true, ltb-true}
 use Rattle.std.proofs.lemmas.Int.{ints}

@@ -1,11 +1,11 @@
 -- The machine follows the course of a template, over the registers of any site.
-use Rattle.std.proofs.Common.{◌≡◌, ◌≢◌, ℕ, zero, suc, ◌+◌, ◌<◌, ◌≤◌, ◌⊎◌, ℤ, pos, Bool, true, false, ◌&&◌, ◌||◌, ◌==◌, if◌then◌else◌, List, [], ◌∷◌, length, Some, refl, sym, ap, ◌∙◌, subst, arith, ⊎_elim}
+use Rattle.std.proofs.Common.{◌≡◌, ◌≢◌, ℕ, zero, suc, ◌+◌, ◌≤◌, Bool, true, false, ◌&&◌, ◌||◌, ◌==◌, if◌then◌else◌, List, [], ◌∷◌, length, refl, sym, ap, ◌∙◌, subst, arith, ⊎_elim}
 use Rattle.std.proofs.lemmas.List.{length-map}
 use Rattle.std.specs.Prelude.{All}
 use Rattle.std.proofs.lemmas.Bool.{eqb-true, or_cases}
 use Rattle.std.proofs.lemmas.List.Elements.{All-nil, All-cons, All-head, All-tail}
 use Rattle.rv_encode.specs.declared.instruction.Instr.{Instr}
-use Rattle.rv_encode.specs.State.{MachineState, Moment, Running, register}
+use Rattle.rv_encode.specs.State.{MachineState, Running, register}
 use Rattle.rv_encode.specs.Effects.{effect_of}
 use Rattle.rv_encode.specs.Words.{Fits}
 use Rattle.rv_encode.specs.Runs.{pc_of, moment_after, next_moment, executed, carried_out, Stand}
@@ -13,7 +13,7 @@ use Rattle.rv_encode.proofs.Encodings.{encoded_decodes}
 use Rattle.rv_encode.proofs.Places.{most_words, fetched_at}
 use Rattle.template_runs.specs.Courses.{Course, Final, Lost, is_scratch, is_call, is_changed, are_changed, final, runs}
 use Rattle.template_runs.specs.Parts.{part_of}
-use Rattle.template_runs.specs.Machine.{IsBefore, IsFinal, StandHere, begun, CoursesAreRuns}
+use Rattle.template_runs.specs.Machine.{IsBefore, IsFinal, begun, CoursesAreRuns}
 use Rattle.template_runs.specs.declared.registers.Registers.{Registers}
 use Rattle.template_runs.specs.Renaming.{AreInRange, renamed, over, all_over}
 use Rattle.template_runs.proofs.Effects.{part_effect}
@@ -118,7 +118,7 @@ module _ (regs : Registers) (range : AreInRange regs) (code : List ℕ) (may : B
         suc there.0,
         omega arith,
         subst (λ p. IsFinal regs.result may p start (moment_after code there.0 (next_moment code (Running s))) final_is) end
-        (subst (λ m. IsFinal regs.result may (k + 1 + length instrs) start (moment_after code there.0 m) final_is) (sym effect) there.2),
+            (subst (λ m. IsFinal regs.result may (k + 1 + length instrs) start (moment_after code there.0 m) final_is) (sym effect) there.2),
       )
 
 -- ---- where it begins

@@ -1,5 +1,5 @@
 -- A step of a course, and the instruction of the machine.
-use Rattle.std.proofs.Common.{◌≡◌, ◌≢◌, ℕ, suc, ◌+◌, ◌-◌, ◌*◌, ◌/◌, ◌%◌, ◌<◌, ◌≤◌, ℤ, pos, negsuc, Bool, true, false, not, ◌&&◌, ◌||◌, ◌==◌, nat_lt, if◌then◌else◌, List, [], ◌∷◌, length, refl, sym, ap, ◌∙◌, subst, arith, ⊎_elim}
+use Rattle.std.proofs.Common.{◌≡◌, ◌≢◌, ℕ, ◌+◌, ◌-◌, ◌*◌, ◌/◌, ◌%◌, ◌<◌, ◌≤◌, ℤ, pos, negsuc, Bool, true, false, not, ◌&&◌, ◌||◌, ◌==◌, nat_lt, if◌then◌else◌, List, [], ◌∷◌, length, refl, sym, ap, ◌∙◌, subst, arith, ⊎_elim}
 use Rattle.std.specs.Prelude.{slice_set, slice_index_or, All}
 use Rattle.std.specs.Int.{w32, cast_unsigned}
 use Rattle.std.specs.Ordering.{int_eq}
@@ -12,7 +12,7 @@ use Rattle.rv_encode.specs.State.{MachineState, Moment, Running, Over, Ended, St
 use Rattle.rv_encode.specs.Effects.{sets, jumps, goes_on, faults, takes, writes, left_flag, calls}
 use Rattle.rv_encode.specs.Runs.{pc_of, moment_after}
 use Rattle.rv_encode.proofs.Places.{most_words, next_pc_of, target_pc_of, whole_pc_of}
-use Rattle.template_runs.specs.Courses.{Course, Final, Ends, Stops, Lost, Rest, may_be_one, is_writable, known_after, sets_value, jumps_by, takes_sample, call_of, step_of}
+use Rattle.template_runs.specs.Courses.{Course, Final, Stops, Lost, Rest, may_be_one, is_writable, known_after, sets_value, jumps_by, takes_sample, call_of, step_of}
 use Rattle.template_runs.specs.Parts.{Part, Sets, Jumps, Calls, Other}
 use Rattle.template_runs.specs.Machine.{IsFinal}
 use Rattle.template_runs.specs.declared.registers.Registers.{Registers}

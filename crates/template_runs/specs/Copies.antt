@@ -1,5 +1,5 @@
 -- A register is copied.
-use Rattle.std.specs.Prelude.{◌≡◌, ◌≢◌, ℕ, ◌+◌, ◌<◌, ℤ, pos, List, [], ◌∷◌, FitsSigned}
+use Rattle.std.specs.Prelude.{◌≡◌, ◌≢◌, ℕ, ◌+◌, pos, List, [], ◌∷◌, FitsSigned}
 use Rattle.std.specs.Int.{w32}
 use Rattle.rv_encode.specs.declared.instruction.Instr.TheVariants.{Addi}
 use Rattle.rv_encode.specs.State.{MachineState, Running, register}

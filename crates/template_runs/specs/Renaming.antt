@@ -1,5 +1,5 @@
 -- The registers of a template, and those of a site.
-use Rattle.std.specs.Prelude.{ℕ, ◌≡◌, ◌≢◌, ◌==◌, ◌≤◌, ◌⊎◌, if◌then◌else◌, List, map}
+use Rattle.std.specs.Prelude.{ℕ, ◌≡◌, ◌==◌, ◌≤◌, ◌⊎◌, if◌then◌else◌, List, map}
 use Rattle.rv_encode.specs.declared.instruction.Instr.{Instr}
 use Rattle.template_runs.specs.declared.registers.Registers.{Registers}
 use Rattle.rv_encode.specs.declared.instruction.Instr.TheVariants.{Lui, Jal, Beq, Bne, Blt, Bge, Bltu, Bgeu, Addi, Sltiu, Ori, Andi, Slli, Srli, Srai, Add, Sll, Xor, Sub, Sra, Mul, Mulh, Div}

@@ -46,29 +46,119 @@ impl Registers {
         ensures { result ≡ over self instr }
     {
         match instr {
-            Instr::Lui { rd, imm } => Instr::Lui { rd: self.renamed(rd), imm },
-            Instr::Jal { rd, imm } => Instr::Jal { rd: self.renamed(rd), imm },
-            Instr::Beq { rs1, rs2, imm } => Instr::Beq { rs1: self.renamed(rs1), rs2: self.renamed(rs2), imm },
-            Instr::Bne { rs1, rs2, imm } => Instr::Bne { rs1: self.renamed(rs1), rs2: self.renamed(rs2), imm },
-            Instr::Blt { rs1, rs2, imm } => Instr::Blt { rs1: self.renamed(rs1), rs2: self.renamed(rs2), imm },
-            Instr::Bge { rs1, rs2, imm } => Instr::Bge { rs1: self.renamed(rs1), rs2: self.renamed(rs2), imm },
-            Instr::Bltu { rs1, rs2, imm } => Instr::Bltu { rs1: self.renamed(rs1), rs2: self.renamed(rs2), imm },
-            Instr::Bgeu { rs1, rs2, imm } => Instr::Bgeu { rs1: self.renamed(rs1), rs2: self.renamed(rs2), imm },
-            Instr::Addi { rd, rs1, imm } => Instr::Addi { rd: self.renamed(rd), rs1: self.renamed(rs1), imm },
-            Instr::Sltiu { rd, rs1, imm } => Instr::Sltiu { rd: self.renamed(rd), rs1: self.renamed(rs1), imm },
-            Instr::Ori { rd, rs1, imm } => Instr::Ori { rd: self.renamed(rd), rs1: self.renamed(rs1), imm },
-            Instr::Andi { rd, rs1, imm } => Instr::Andi { rd: self.renamed(rd), rs1: self.renamed(rs1), imm },
-            Instr::Slli { rd, rs1, imm } => Instr::Slli { rd: self.renamed(rd), rs1: self.renamed(rs1), imm },
-            Instr::Srli { rd, rs1, imm } => Instr::Srli { rd: self.renamed(rd), rs1: self.renamed(rs1), imm },
-            Instr::Srai { rd, rs1, imm } => Instr::Srai { rd: self.renamed(rd), rs1: self.renamed(rs1), imm },
-            Instr::Add { rd, rs1, rs2 } => Instr::Add { rd: self.renamed(rd), rs1: self.renamed(rs1), rs2: self.renamed(rs2) },
-            Instr::Sll { rd, rs1, rs2 } => Instr::Sll { rd: self.renamed(rd), rs1: self.renamed(rs1), rs2: self.renamed(rs2) },
-            Instr::Xor { rd, rs1, rs2 } => Instr::Xor { rd: self.renamed(rd), rs1: self.renamed(rs1), rs2: self.renamed(rs2) },
-            Instr::Sub { rd, rs1, rs2 } => Instr::Sub { rd: self.renamed(rd), rs1: self.renamed(rs1), rs2: self.renamed(rs2) },
-            Instr::Sra { rd, rs1, rs2 } => Instr::Sra { rd: self.renamed(rd), rs1: self.renamed(rs1), rs2: self.renamed(rs2) },
-            Instr::Mul { rd, rs1, rs2 } => Instr::Mul { rd: self.renamed(rd), rs1: self.renamed(rs1), rs2: self.renamed(rs2) },
-            Instr::Mulh { rd, rs1, rs2 } => Instr::Mulh { rd: self.renamed(rd), rs1: self.renamed(rs1), rs2: self.renamed(rs2) },
-            Instr::Div { rd, rs1, rs2 } => Instr::Div { rd: self.renamed(rd), rs1: self.renamed(rs1), rs2: self.renamed(rs2) },
+            Instr::Lui { rd, imm } => Instr::Lui {
+                rd: self.renamed(rd),
+                imm,
+            },
+            Instr::Jal { rd, imm } => Instr::Jal {
+                rd: self.renamed(rd),
+                imm,
+            },
+            Instr::Beq { rs1, rs2, imm } => Instr::Beq {
+                rs1: self.renamed(rs1),
+                rs2: self.renamed(rs2),
+                imm,
+            },
+            Instr::Bne { rs1, rs2, imm } => Instr::Bne {
+                rs1: self.renamed(rs1),
+                rs2: self.renamed(rs2),
+                imm,
+            },
+            Instr::Blt { rs1, rs2, imm } => Instr::Blt {
+                rs1: self.renamed(rs1),
+                rs2: self.renamed(rs2),
+                imm,
+            },
+            Instr::Bge { rs1, rs2, imm } => Instr::Bge {
+                rs1: self.renamed(rs1),
+                rs2: self.renamed(rs2),
+                imm,
+            },
+            Instr::Bltu { rs1, rs2, imm } => Instr::Bltu {
+                rs1: self.renamed(rs1),
+                rs2: self.renamed(rs2),
+                imm,
+            },
+            Instr::Bgeu { rs1, rs2, imm } => Instr::Bgeu {
+                rs1: self.renamed(rs1),
+                rs2: self.renamed(rs2),
+                imm,
+            },
+            Instr::Addi { rd, rs1, imm } => Instr::Addi {
+                rd: self.renamed(rd),
+                rs1: self.renamed(rs1),
+                imm,
+            },
+            Instr::Sltiu { rd, rs1, imm } => Instr::Sltiu {
+                rd: self.renamed(rd),
+                rs1: self.renamed(rs1),
+                imm,
+            },
+            Instr::Ori { rd, rs1, imm } => Instr::Ori {
+                rd: self.renamed(rd),
+                rs1: self.renamed(rs1),
+                imm,
+            },
+            Instr::Andi { rd, rs1, imm } => Instr::Andi {
+                rd: self.renamed(rd),
+                rs1: self.renamed(rs1),
+                imm,
+            },
+            Instr::Slli { rd, rs1, imm } => Instr::Slli {
+                rd: self.renamed(rd),
+                rs1: self.renamed(rs1),
+                imm,
+            },
+            Instr::Srli { rd, rs1, imm } => Instr::Srli {
+                rd: self.renamed(rd),
+                rs1: self.renamed(rs1),
+                imm,
+            },
+            Instr::Srai { rd, rs1, imm } => Instr::Srai {
+                rd: self.renamed(rd),
+                rs1: self.renamed(rs1),
+                imm,
+            },
+            Instr::Add { rd, rs1, rs2 } => Instr::Add {
+                rd: self.renamed(rd),
+                rs1: self.renamed(rs1),
+                rs2: self.renamed(rs2),
+            },
+            Instr::Sll { rd, rs1, rs2 } => Instr::Sll {
+                rd: self.renamed(rd),
+                rs1: self.renamed(rs1),
+                rs2: self.renamed(rs2),
+            },
+            Instr::Xor { rd, rs1, rs2 } => Instr::Xor {
+                rd: self.renamed(rd),
+                rs1: self.renamed(rs1),
+                rs2: self.renamed(rs2),
+            },
+            Instr::Sub { rd, rs1, rs2 } => Instr::Sub {
+                rd: self.renamed(rd),
+                rs1: self.renamed(rs1),
+                rs2: self.renamed(rs2),
+            },
+            Instr::Sra { rd, rs1, rs2 } => Instr::Sra {
+                rd: self.renamed(rd),
+                rs1: self.renamed(rs1),
+                rs2: self.renamed(rs2),
+            },
+            Instr::Mul { rd, rs1, rs2 } => Instr::Mul {
+                rd: self.renamed(rd),
+                rs1: self.renamed(rs1),
+                rs2: self.renamed(rs2),
+            },
+            Instr::Mulh { rd, rs1, rs2 } => Instr::Mulh {
+                rd: self.renamed(rd),
+                rs1: self.renamed(rs1),
+                rs2: self.renamed(rs2),
+            },
+            Instr::Div { rd, rs1, rs2 } => Instr::Div {
+                rd: self.renamed(rd),
+                rs1: self.renamed(rs1),
+                rs2: self.renamed(rs2),
+            },
             other => other,
         }
     }
