@@ -3,13 +3,14 @@
 // a line feed.
 
 use crate::first::first_of;
+use crate::places::{items_of, places_of};
 use crate::shape::shape_of;
 use crate::text::{tokens_of, unescaped};
 use crate::tree::tree_of;
 use std::alloc::{AllocError, Global};
 
 /// The answer to a line: the tokens of a text or how many they are, how many items are read, the shape of an
-/// expression, or the first form.
+/// expression, where items or the parts of a statement begin, or the first form.
 pub fn answer_to(alloc: Global, line: &str) -> Result<String, AllocError> {
     let (kind, text) = line.split_once(' ').unwrap_or((line, ""));
     let bytes = unescaped(alloc, text)?;
@@ -18,6 +19,8 @@ pub fn answer_to(alloc: Global, line: &str) -> Result<String, AllocError> {
         "count" => tokens_of(alloc, bytes.as_slice(), false),
         "read" => tree_of(alloc, bytes.as_slice()),
         "shape" => shape_of(alloc, bytes.as_slice()),
+        "places" => places_of(alloc, bytes.as_slice()),
+        "items" => items_of(alloc, bytes.as_slice()),
         "first" => first_of(alloc, bytes.as_slice()),
         _ => format!(in alloc; "no case: {line}"),
     }

@@ -4,6 +4,7 @@
 
 mod case;
 mod first;
+mod places;
 mod shape;
 mod text;
 mod tree;
