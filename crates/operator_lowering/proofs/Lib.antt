@@ -28,3 +28,4 @@ pub mod Sound
 pub mod Ready
 pub mod Templates
 pub mod Puts
+pub mod Places

@@ -1,6 +1,10 @@
 -- Instructions that are put one after another.
-use Rattle.std.proofs.Common.{◌≡◌, ℕ, zero, suc, ◌+◌, ◌<◌, ◌≤◌, List, [], ◌∷◌, ◌++◌, map, take, length, get_or, true, refl, sym, ap, ◌∙◌, subst, arith, append_assoc, length-append}
+use Rattle.std.proofs.Common.{◌≡◌, ℕ, zero, suc, ◌+◌, ◌<◌, ◌≤◌, List, [], ◌∷◌, ◌++◌, map, take, length, get_or, true, ◌&&◌, refl, sym, ap, ◌∙◌, subst, arith, append_assoc, length-append}
 use Rattle.std.proofs.lemmas.List.{take_more, map-append, length-map, length-take}
+use Rattle.operator_meaning.specs.declared.operator.Op.{Op}
+use Rattle.operator_meaning.specs.declared.site.Form.{Form}
+use Rattle.operator_lowering.specs.Words.{operator_words}
+use Rattle.operator_lowering.proofs.Sound.{operator_fit}
 use Rattle.rv_encode.specs.declared.instruction.Instr.{Instr}
 use Rattle.rv_encode.specs.Words.{Fits, encoded}
 use Rattle.template_runs.specs.declared.registers.Registers.{Registers}
@@ -32,4 +36,29 @@ room_more regs before instrs i most less room =
     let b = length-map (all_over regs (take i instrs)) encoded in
     let c = length-map (take i instrs) (over regs) in
     let d = length-take i instrs in
+    omega arith
+
+-- ---- the two parts of an operator
+
+fit_parts : (xs ys : List Instr) → are_fit (xs ++ ys) ≡ true → (are_fit xs ≡ true) × (are_fit ys ≡ true)
+fit_parts [] ys e = (refl, e)
+fit_parts (x ∷ xs) ys e =
+    let parts = and_parts (is_fit x) (are_fit (xs ++ ys)) e in
+    let more = fit_parts xs ys parts.1 in
+    (ap (λ b. b && are_fit xs) parts.0 ∙ more.0, more.1)
+
+pub operator_parts : (o : Op) (form : Form) (xs ys : List Instr) → xs ++ ys ≡ operator_words o form → (are_fit xs ≡ true) × (are_fit ys ≡ true) × (length xs + length ys ≤ 90)
+operator_parts o form xs ys e =
+    let known = operator_fit o form in
+    let parts = fit_parts xs ys (ap are_fit e ∙ known.0) in
+    let few : length (xs ++ ys) ≤ 90 = subst (λ l. length l ≤ 90) (sym e) known.1 in
+    let both = length-append xs ys in
+    (parts.0, parts.1, omega arith)
+
+pub room_after : (regs : Registers) (before after : List ℕ) (xs : List Instr) (more : ℕ) → after ≡ before ++ map encoded (all_over regs xs) → length before ≤ 1 → length xs + more ≤ 90 → length after + more ≤ 96
+room_after regs before after xs more e short few =
+    let a = ap length e in
+    let b = length-append before (map encoded (all_over regs xs)) in
+    let c = length-map (all_over regs xs) encoded in
+    let d = length-map xs (over regs) in
     omega arith

@@ -47,7 +47,7 @@ impl Words {
         &self.words[..self.len]
     }
 
-    fn push(&mut self, word: u32)
+    pub(crate) fn push(&mut self, word: u32)
         requires { length self.old < 96 }
         ensures { self.new ≡ self.old ++ word ∷ [] }
     {
