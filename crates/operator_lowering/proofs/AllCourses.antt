@@ -1,5 +1,5 @@
 -- The course of each site.
-use Rattle.std.proofs.Common.{◌≡◌, refl, sym, subst}
+use Rattle.std.proofs.Common.{◌≡◌, sym, subst}
 use Rattle.operator_meaning.specs.declared.operator.Op.{Op}
 use Rattle.operator_meaning.specs.declared.operator.Op.TheVariants as op
 use Rattle.operator_meaning.specs.declared.site.SiteKind.{SiteKind}
@@ -9,7 +9,7 @@ use Rattle.operator_meaning.specs.declared.site.Form.TheVariants.{Plain}
 use Rattle.operator_meaning.specs.declared.site.Guard.{Guard}
 use Rattle.operator_meaning.specs.declared.site.Guard.TheVariants.{Kept, Gone}
 use Rattle.operator_lowering.specs.Courses.{IsCourse}
-use Rattle.operator_lowering.specs.Laws.{IsFormOf, SitesAreCourses}
+use Rattle.operator_lowering.specs.Laws.{SitesAreCourses}
 use Rattle.operator_lowering.proofs.AccumulationCourses.{round, l_mac, l_msu, mac_r, msu_r}
 use Rattle.operator_lowering.proofs.HalfCourses.{abs_s, extract_h, extract_l, negate, l_negate, l_abs, l_deposit_h, l_deposit_l}
 use Rattle.operator_lowering.proofs.NormCourses.{norm_s, norm_l}

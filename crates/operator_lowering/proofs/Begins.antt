@@ -1,20 +1,18 @@
 -- The way in which the words of a site begin, over any registers.
-use Rattle.std.proofs.Common.{◌≡◌, ◌≢◌, ℕ, zero, suc, ◌+◌, ◌<◌, ◌≤◌, ◌⊎◌, inl, inr, ℤ, pos, Bool, true, false, not, ◌&&◌, ◌==◌, if◌then◌else◌, List, [], ◌∷◌, ◌++◌, length, refl, sym, ap, ◌∙◌, subst, arith, ⊎_elim}
-use Rattle.std.specs.Prelude.{FitsSigned, All}
+use Rattle.std.proofs.Common.{◌≡◌, ◌≢◌, ℕ, ◌≤◌, inl, inr, ℤ, Bool, true, false, not, ◌&&◌, ◌==◌, if◌then◌else◌, List, [], ◌++◌, length, refl, ap, ◌∙◌, arith}
+use Rattle.std.specs.Prelude.{FitsSigned}
 use Rattle.std.specs.Int.{w32}
 use Rattle.std.proofs.lemmas.Bool.{eqb-true, eq-eqb}
 use Rattle.rv_encode.specs.declared.instruction.Instr.{Instr}
 use Rattle.rv_encode.specs.State.{MachineState, register}
 use Rattle.template_runs.specs.declared.registers.Registers.{Registers}
-use Rattle.template_runs.specs.Copies.{IsCopied}
 use Rattle.template_runs.specs.Courses.{Final, runs}
 use Rattle.template_runs.specs.Machine.{StandHere, IsBefore, begun}
 use Rattle.template_runs.specs.Renaming.{AreInRange, IsPlace, all_over}
-use Rattle.operator_lowering.specs.Courses.{apart_of, is_moved}
 use Rattle.operator_lowering.specs.Template.{ArePlaces}
 use Rattle.operator_lowering.specs.declared.way.Way.{Way}
 use Rattle.operator_lowering.specs.declared.way.Way.TheVariants.{Straight, Moves, KeepsFirst, KeepsThird, Turns}
-use Rattle.operator_lowering.specs.Words.{front, places, copy, keeps_first, turns}
+use Rattle.operator_lowering.specs.Words.{front, places, copy}
 use Rattle.operator_lowering.proofs.Ways.{Done, straight, copied_first}
 
 in_range : (regs : Registers) → ArePlaces regs → AreInRange regs

@@ -1,9 +1,8 @@
 -- Numbers that words make, and stops.
-use Rattle.std.proofs.Common.{◌≡◌, ℕ, ◌+◌, ◌*◌, ◌/◌, ◌%◌, ◌^◌, ◌<◌, ◌≤◌, ℤ, pos, negsuc, ◌-ℤ◌, Bool, true, false, nat_lt, refl, sym, ap, ◌∙◌, arith, ⊎_elim}
+use Rattle.std.proofs.Common.{◌≡◌, ℕ, ◌+◌, ◌/◌, ◌%◌, ◌^◌, ◌<◌, pos, ◌-ℤ◌, true, false, nat_lt, refl, arith, ⊎_elim}
 use Rattle.std.specs.Int.{w32, cast_signed}
 use Rattle.std.proofs.lemmas.Bool.{cases_Bool, ltb-true}
 use Rattle.std.proofs.lemmas.Int.{ints}
-use Rattle.template_runs.specs.Courses.{Final, Stops}
 use Rattle.template_runs.specs.Values.{added, upper}
 
 small_constant : (n : ℕ) → n < 2048 → added (pos 0) (pos n) ≡ cast_signed w32 n

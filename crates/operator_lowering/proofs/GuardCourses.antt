@@ -1,6 +1,6 @@
 -- The courses of products, bounds, views and samples.
-use Rattle.std.proofs.Common.{◌≡◌, ◌≢◌, ℕ, ◌+◌, ◌<◌, ◌≤◌, ◌^◌, min, ℤ, pos, negsuc, ◌+ℤ◌, ◌-ℤ◌, ◌*ℤ◌, ◌≤ℤ◌, ◌<ℤ◌, Bool, true, false, not, if◌then◌else◌, ◌⊎◌, inl, inr, Option, List, [], ◌∷◌, ◌++◌, Some, None, refl, sym, ap, ◌∙◌, subst, arith, ⊎_elim}
-use Rattle.std.specs.Prelude.{FitsSigned, All}
+use Rattle.std.proofs.Common.{◌≡◌, ℕ, ◌<◌, ◌≤◌, ◌^◌, min, ℤ, pos, negsuc, ◌+ℤ◌, ◌-ℤ◌, ◌*ℤ◌, ◌≤ℤ◌, ◌<ℤ◌, Bool, true, false, not, if◌then◌else◌, ◌⊎◌, inl, inr, Option, List, [], ◌∷◌, ◌++◌, Some, None, refl, sym, ap, ◌∙◌, subst, arith, ⊎_elim}
+use Rattle.std.specs.Prelude.{FitsSigned}
 use Rattle.std.specs.Int.{w16, w32, cast_signed, cast_unsigned}
 use Rattle.std.proofs.lemmas.Bool.{cases_Bool}
 use Rattle.std.proofs.lemmas.Int.{ints}
@@ -12,7 +12,7 @@ use Rattle.template_runs.specs.Courses.{Final, Stops, runs}
 use Rattle.template_runs.specs.Machine.{begun}
 use Rattle.template_runs.specs.Values.{added, multiplied, multiplied_high, to_right_signed, less, equal, below}
 use Rattle.operator_lowering.specs.Courses.{IsCourse}
-use Rattle.operator_lowering.specs.Sites.{of_32_bits, led_to, between, next_sample}
+use Rattle.operator_lowering.specs.Sites.{of_32_bits, led_to, between}
 use Rattle.operator_lowering.specs.Words.{checked_by, is_small, bound_of, product_check, bound_check, view_check, edge_check, sample_check, sample_words}
 use Rattle.operator_lowering.proofs.Constants.{by_size, one, two, five}
 use Rattle.operator_lowering.proofs.CheckCourses.{gives, stops, within_of}

@@ -1,11 +1,10 @@
 -- The courses of halves, magnitudes and opposites.
-use Rattle.std.proofs.Common.{◌≡◌, ◌≢◌, ℕ, suc, ◌+◌, ◌-◌, ◌%◌, ◌<◌, ℤ, pos, negsuc, ◌+ℤ◌, ◌-ℤ◌, ◌*ℤ◌, ◌≤ℤ◌, ◌<ℤ◌, neg_ℤ, Bool, true, false, refl, sym, ap, ◌∙◌, arith}
+use Rattle.std.proofs.Common.{◌≡◌, ◌≢◌, ℕ, suc, ◌+◌, ◌-◌, ◌%◌, ℤ, pos, negsuc, ◌-ℤ◌, ◌*ℤ◌, ◌≤ℤ◌, ◌<ℤ◌, neg_ℤ, true, refl, sym, ap, ◌∙◌, arith}
 use Rattle.std.specs.Prelude.{FitsSigned, unsigned_abs}
 use Rattle.std.specs.Int.{w16, w32, cast_signed, int_rem_euclid}
-use Rattle.std.proofs.lemmas.Int.{ints, clamps}
+use Rattle.std.proofs.lemmas.Int.{ints}
 use Rattle.sat_base.specs.Clip.{clip16, clip32, low16}
 use Rattle.sat_base.proofs.Low.{low16_by_remainder}
-use Rattle.operator_meaning.specs.Clipping.{changes16, changes32}
 use Rattle.operator_meaning.specs.Value.{floor}
 use Rattle.operator_meaning.specs.declared.operator.Op.TheVariants as op
 use Rattle.operator_meaning.specs.declared.site.SiteKind.TheVariants.{Call}
@@ -15,7 +14,7 @@ use Rattle.operator_meaning.specs.declared.site.Guard.{Guard}
 use Rattle.template_runs.specs.Values.{added, taken, less, equal, upper, multiplied, any_bits, to_left, to_right, to_right_signed}
 use Rattle.operator_lowering.specs.Courses.{IsCourse}
 use Rattle.operator_lowering.proofs.Numbers.{less_true, less_false, equal_true, equal_false, kept16, above16, kept32, above32, by_range16, by_range32, range_of_kept16, range_of_kept32}
-use Rattle.operator_lowering.proofs.Trees.{by_test, by_turned, ends_same}
+use Rattle.operator_lowering.proofs.Trees.{by_turned, ends_same}
 
 -- ---- halves
 

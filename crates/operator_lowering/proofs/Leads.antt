@@ -1,9 +1,9 @@
 -- Where a site leads, by the range of its number.
-use Rattle.std.proofs.Common.{◌≡◌, ◌≢◌, ℕ, ℤ, pos, negsuc, ◌+ℤ◌, ◌-ℤ◌, ◌≤ℤ◌, ◌<ℤ◌, Bool, true, false, int_lt, List, Option, Some, None, if◌then◌else◌, refl, sym, ap, ◌∙◌, arith, ◌⊎◌, inl, inr, ⊎_elim}
+use Rattle.std.proofs.Common.{◌≡◌, ℕ, ℤ, ◌≤ℤ◌, ◌<ℤ◌, Bool, true, false, int_lt, List, Option, Some, None, if◌then◌else◌, sym, ap, ◌∙◌, arith, ◌⊎◌, inl, inr, ⊎_elim}
 use Rattle.std.specs.Int.{w32, cast_signed}
 use Rattle.std.proofs.lemmas.Bool.{cases_Bool}
 use Rattle.std.proofs.lemmas.Int.{ints}
-use Rattle.template_runs.specs.Courses.{Final, Ends, Stops}
+use Rattle.template_runs.specs.Courses.{Ends, Stops}
 use Rattle.operator_lowering.specs.Sites.{between, led_to}
 
 below_is : (a b : ℤ) → a <ℤ b → int_lt a b ≡ true

@@ -1,5 +1,5 @@
 -- The courses of norms.
-use Rattle.std.proofs.Common.{◌≡◌, ◌≢◌, ℕ, zero, suc, ◌+◌, ◌-◌, ◌*◌, ◌/◌, ◌^◌, ◌<◌, ◌≤◌, ℤ, pos, negsuc, Bool, true, false, not, if◌then◌else◌, ◌⊎◌, inl, inr, List, refl, sym, ap, ◌∙◌, subst, arith, ⊎_elim, lit≤, lit<, pow_pos, add-one}
+use Rattle.std.proofs.Common.{◌≡◌, ◌≢◌, ℕ, ◌+◌, ◌-◌, ◌*◌, ◌/◌, ◌^◌, ◌<◌, ◌≤◌, ℤ, pos, negsuc, true, false, not, if◌then◌else◌, List, refl, sym, ap, ◌∙◌, arith, ⊎_elim, lit≤, lit<, pow_pos, add-one}
 use Rattle.std.proofs.Math.Nat.{pow-succ'}
 use Rattle.std.proofs.lemmas.Bool.{cases_lt}
 use Rattle.std.proofs.lemmas.Nat.{div_below, le-div}

@@ -1,19 +1,19 @@
 -- The norm of a number, found by halves.
-use Rattle.std.proofs.Common.{◌≡◌, ◌≢◌, ℕ, zero, suc, ◌+◌, ◌-◌, ◌*◌, ◌/◌, ◌%◌, ◌^◌, ◌<◌, ◌≤◌, ℤ, pos, negsuc, ◌≤ℤ◌, ◌<ℤ◌, Bool, true, false, not, if◌then◌else◌, ◌⊎◌, inl, inr, refl, sym, ap, ◌∙◌, subst, arith, ⊎_elim, pow_pos, pow_mono, mul_assoc}
-use Rattle.std.specs.Prelude.{FitsSigned, bit_xor, bit_and}
-use Rattle.std.specs.Int.{w16, w32, cast_signed}
+use Rattle.std.proofs.Common.{◌≡◌, ◌≢◌, ℕ, zero, suc, ◌+◌, ◌-◌, ◌*◌, ◌/◌, ◌^◌, ◌<◌, ◌≤◌, ℤ, pos, negsuc, not, if◌then◌else◌, sym, ap, ◌∙◌, subst, arith, ⊎_elim, pow_pos, pow_mono, mul_assoc}
+use Rattle.std.specs.Prelude.{FitsSigned, bit_xor}
+use Rattle.std.specs.Int.{w32, cast_signed}
 use Rattle.std.specs.Int.Count.{count_leading_zeros}
 use Rattle.std.specs.Int.Signed.{mag}
 use Rattle.std.proofs.Math.Pow.{pow-add}
-use Rattle.std.proofs.lemmas.Bool.{cases_Bool, cases_lt}
+use Rattle.std.proofs.lemmas.Bool.{cases_lt}
 use Rattle.std.proofs.lemmas.Int.{ints, to_z_pos}
 use lib.Bits.{xor_add_and}
 use Rattle.std.proofs.lemmas.Grind.{common_steps}
 use Rattle.std.proofs.lemmas.Nat.{div_below, le-div, mul-le, leading_top, and_mask}
 use Rattle.operator_meaning.specs.Value.{norm}
-use Rattle.operator_meaning.proofs.Norms.{IsCounted, counted}
+use Rattle.operator_meaning.proofs.Norms.{counted}
 use Rattle.template_runs.specs.Courses.{Final}
-use Rattle.template_runs.specs.Values.{added, taken, equal, to_left, to_right, to_right_signed, other_bits}
+use Rattle.template_runs.specs.Values.{added, equal, to_left, to_right, to_right_signed, other_bits}
 use Rattle.operator_lowering.proofs.Numbers.{equal_true, equal_false}
 use Rattle.operator_lowering.proofs.Sums.{sign_positive, sign_negative}
 use Rattle.operator_lowering.proofs.Trees.{by_turned}

@@ -1,5 +1,5 @@
 -- The registers of a site lie in x8 to x23.
-use Rattle.std.proofs.Common.{ℕ, zero, suc, ◌<◌, List, [], ◌∷◌, get_or, length, inl, inr, ⊎_elim, ◌≤◌}
+use Rattle.std.proofs.Common.{ℕ, zero, suc, List, [], ◌∷◌}
 use Rattle.std.specs.Prelude.{All, slice_index_or}
 use Rattle.std.proofs.lemmas.List.Elements.{All-head, All-tail}
 use Rattle.operator_meaning.specs.declared.site.SiteKind.{SiteKind}

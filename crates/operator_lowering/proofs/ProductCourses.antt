@@ -1,7 +1,7 @@
 -- The courses of products.
-use Rattle.std.proofs.Common.{◌≡◌, ◌≢◌, ℕ, ℤ, pos, negsuc, ◌+ℤ◌, ◌-ℤ◌, ◌*ℤ◌, ◌≤ℤ◌, ◌<ℤ◌, Bool, true, false, refl, sym, ap, ◌∙◌, arith}
+use Rattle.std.proofs.Common.{◌≡◌, ◌≢◌, ℤ, pos, negsuc, ◌+ℤ◌, ◌*ℤ◌, ◌≤ℤ◌, ◌<ℤ◌, true, false, refl, sym, ap, ◌∙◌, arith}
 use Rattle.std.specs.Prelude.{FitsSigned}
-use Rattle.std.specs.Int.{w16, w32}
+use Rattle.std.specs.Int.{w16}
 use Rattle.std.proofs.lemmas.Int.{ints}
 use Rattle.sat_base.specs.Clip.{clip16, clip32}
 use Rattle.operator_meaning.specs.Clipping.{changes16, changes32}
@@ -11,7 +11,7 @@ use Rattle.operator_meaning.specs.declared.site.SiteKind.TheVariants.{Call}
 use Rattle.operator_meaning.specs.declared.site.Form.{Form}
 use Rattle.operator_meaning.specs.declared.site.Form.TheVariants.{Plain, Clamp, Flag}
 use Rattle.operator_meaning.specs.declared.site.Guard.{Guard}
-use Rattle.template_runs.specs.Values.{added, less, equal, multiplied, to_left, to_right_signed, upper}
+use Rattle.template_runs.specs.Values.{added, less, equal, multiplied, to_right_signed, upper}
 use Rattle.operator_lowering.specs.Courses.{IsCourse}
 use Rattle.operator_lowering.proofs.Numbers.{equal_true, equal_false, kept16, above16, range_of_kept16}
 use Rattle.operator_lowering.proofs.Products.{product_is, fraction_is, rounded_fraction_is, twice_of, twice_exact, twice_past, not_past, not_past_below, past, not_past_kept}

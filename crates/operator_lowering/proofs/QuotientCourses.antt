@@ -1,14 +1,14 @@
 -- The courses of quotients.
-use Rattle.std.proofs.Common.{◌≡◌, ◌≢◌, ℕ, ◌<◌, ◌^◌, ℤ, pos, negsuc, Bool, true, false, List, ◌++◌, Option, Some, None, if◌then◌else◌, refl, sym, ap, ◌∙◌, subst, arith}
+use Rattle.std.proofs.Common.{◌≡◌, ℕ, ◌<◌, ◌^◌, ℤ, pos, Bool, false, List, ◌++◌, Option, Some, None, refl, sym, subst}
 use Rattle.std.specs.Prelude.{FitsSigned}
-use Rattle.std.specs.Int.{w16, w32}
+use Rattle.std.specs.Int.{w16}
 use Rattle.operator_meaning.specs.Value.{quotient}
 use Rattle.operator_meaning.specs.declared.operator.Op.TheVariants as op
 use Rattle.operator_meaning.specs.declared.site.SiteKind.TheVariants.{Call}
 use Rattle.operator_meaning.specs.declared.site.Form.{Form}
 use Rattle.operator_meaning.specs.declared.site.Form.TheVariants.{Plain, Clamp, Flag}
 use Rattle.operator_meaning.specs.declared.site.Guard.TheVariants.{Kept, Gone}
-use Rattle.template_runs.specs.Courses.{Final, Ends, runs}
+use Rattle.template_runs.specs.Courses.{Ends, runs}
 use Rattle.template_runs.specs.Machine.{begun}
 use Rattle.template_runs.specs.Values.{less, below}
 use Rattle.operator_lowering.specs.declared.tables.products.TheConstants.{DIVIDE}
@@ -19,7 +19,7 @@ use Rattle.operator_lowering.proofs.Constants.{by_size, five}
 use Rattle.operator_lowering.proofs.Leads.{leads, halts}
 use Rattle.operator_lowering.proofs.Numbers.{less_true, less_false, below_true, below_false}
 use Rattle.operator_lowering.proofs.Quotients.{quotient_words, quotient_gives, none_by_first, none_by_second, some_by_order}
-use Rattle.operator_lowering.proofs.Trees.{by_test, by_turned}
+use Rattle.operator_lowering.proofs.Trees.{by_turned}
 
 -- no form sets Overflow
 flag_is : (form : Form) (flag : ℤ) → flag_after form false flag ≡ flag

@@ -1,5 +1,5 @@
 -- What the way of each site asks, from its course.
-use Rattle.std.proofs.Common.{◌≡◌, ℕ, ◌<◌, ◌^◌, ℤ, pos, ◌+ℤ◌, Bool, true, false, if◌then◌else◌, List, refl, sym, ap, ◌∙◌, subst, arith}
+use Rattle.std.proofs.Common.{◌≡◌, ℕ, ◌<◌, ◌^◌, ℤ, ◌+ℤ◌, List, refl, sym, ap, ◌∙◌, subst, arith}
 use Rattle.std.specs.Prelude.{FitsSigned}
 use Rattle.std.specs.Int.{w16, w32}
 use Rattle.std.proofs.lemmas.Int.{ints}
@@ -13,12 +13,11 @@ use Rattle.operator_meaning.specs.declared.site.Form.{Form}
 use Rattle.operator_meaning.specs.declared.site.Form.TheVariants.{Plain, Clamp, Flag}
 use Rattle.operator_meaning.specs.declared.site.Guard.{Guard}
 use Rattle.operator_meaning.specs.declared.site.Guard.TheVariants.{Kept, Gone}
-use Rattle.template_runs.specs.Courses.{Final, Ends, runs}
-use Rattle.template_runs.specs.Machine.{begun}
+use Rattle.template_runs.specs.Courses.{Ends}
 use Rattle.operator_lowering.specs.Laws.{IsFormOf}
 use Rattle.operator_lowering.specs.Sites.{site_final, flag_after, of_32_bits, led_to}
 use Rattle.operator_lowering.specs.Template.{AreAsked, makes_calls}
-use Rattle.operator_lowering.specs.Words.{way_of, site_words, operator_words}
+use Rattle.operator_lowering.specs.Words.{way_of, site_words}
 use Rattle.operator_lowering.proofs.AllCourses.{all_courses, operator_course}
 use Rattle.operator_lowering.proofs.Begins.{Needs, LeadsBy}
 

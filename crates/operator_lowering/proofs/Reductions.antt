@@ -1,24 +1,16 @@
 -- Differences with twice a product, and their clips.
-use Rattle.std.proofs.Common.{◌≡◌, ◌≢◌, ℕ, ℤ, pos, negsuc, ◌+ℤ◌, ◌-ℤ◌, ◌*ℤ◌, ◌≤ℤ◌, ◌<ℤ◌, Bool, true, false, ◌||◌, if◌then◌else◌, refl, sym, ap, ◌∙◌, subst, arith}
+use Rattle.std.proofs.Common.{◌≡◌, ℤ, pos, negsuc, ◌-ℤ◌, ◌*ℤ◌, ◌≤ℤ◌, ◌<ℤ◌, true, false, sym, ap, ◌∙◌, subst, arith}
 use Rattle.std.specs.Prelude.{FitsSigned}
 use Rattle.std.specs.Int.{w16, w32}
 use Rattle.std.proofs.lemmas.Int.{ints}
-use Rattle.sat_base.specs.Clip.{clip16, clip32}
-use Rattle.operator_meaning.specs.Clipping.{changes32, accumulation_clips, reduction_clips, rounding_clips}
-use Rattle.operator_meaning.specs.Value.{product_of, accumulated, reduced, rounded}
-use Rattle.operator_meaning.specs.declared.operator.Op.TheVariants as op
-use Rattle.operator_meaning.specs.declared.site.SiteKind.TheVariants.{Call}
-use Rattle.operator_meaning.specs.declared.site.Form.{Form}
-use Rattle.operator_meaning.specs.declared.site.Form.TheVariants.{Plain, Clamp, Flag}
-use Rattle.operator_meaning.specs.declared.site.Guard.{Guard}
-use Rattle.template_runs.specs.Values.{added, taken, less, multiplied, to_left, to_right_signed, upper}
-use Rattle.operator_lowering.specs.Courses.{IsCourse}
-use Rattle.operator_lowering.proofs.Numbers.{less_true, less_false, kept32, above32, below32, range_of_kept32}
-use Rattle.operator_lowering.proofs.Sums.{IsExact, IsWrapped, other_end, added_within, added_fits, taken_within, taken_fits}
-use Rattle.operator_lowering.proofs.SumCourses.{up_exact, up_wrapped, down_exact, down_wrapped, up_by, up_past, down_by, down_past}
+use Rattle.sat_base.specs.Clip.{clip32}
+use Rattle.operator_meaning.specs.Clipping.{changes32, reduction_clips}
+use Rattle.operator_meaning.specs.Value.{product_of, reduced}
+use Rattle.template_runs.specs.Values.{added, taken, less, multiplied, upper}
+use Rattle.operator_lowering.proofs.Numbers.{less_true, less_false, kept32, below32, range_of_kept32}
+use Rattle.operator_lowering.proofs.Sums.{IsExact, IsWrapped, other_end, taken_within, taken_fits}
+use Rattle.operator_lowering.proofs.SumCourses.{up_by, up_past, down_by, down_past}
 use Rattle.operator_lowering.proofs.Products.{twice_of, twice_exact, twice_past, not_past, not_past_below, past, not_past_kept}
-use Rattle.operator_lowering.proofs.Rounding.{rounding, rounding_clamp, rounding_flag, rounding_set, plain_rounding}
-use Rattle.operator_lowering.proofs.Trees.{by_test, by_turned, ends, ends_same, ends_kept, ends_changed, one}
 use Rattle.operator_lowering.proofs.Accumulations.{greatest, least, minus_one, fits_greatest, neither, second, first, no_first, no_second}
 
 module _ (x a b : ℤ) (fits_x : FitsSigned w32 x) (fits_a : FitsSigned w16 a) (fits_b : FitsSigned w16 b) where

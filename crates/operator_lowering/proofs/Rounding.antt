@@ -1,15 +1,15 @@
 -- The upper half of a number and 2^15, with its clip.
-use Rattle.std.proofs.Common.{◌≡◌, ◌≢◌, ℕ, ℤ, pos, negsuc, ◌+ℤ◌, ◌-ℤ◌, ◌≤ℤ◌, ◌<ℤ◌, Bool, true, false, not, ◌||◌, if◌then◌else◌, List, refl, sym, ap, ◌∙◌, subst, arith, ⊎_elim}
+use Rattle.std.proofs.Common.{◌≡◌, ℤ, pos, negsuc, ◌+ℤ◌, ◌-ℤ◌, ◌≤ℤ◌, ◌<ℤ◌, true, false, not, if◌then◌else◌, List, refl, sym, ap, ◌∙◌, subst, arith, ⊎_elim}
 use Rattle.std.specs.Prelude.{FitsSigned}
 use Rattle.std.specs.Int.{w32}
 use Rattle.std.proofs.lemmas.Int.{ints}
 use Rattle.sat_base.specs.Clip.{clip32}
-use Rattle.operator_meaning.specs.Clipping.{changes32, rounding_clips}
+use Rattle.operator_meaning.specs.Clipping.{rounding_clips}
 use Rattle.operator_meaning.specs.Value.{floor, rounded}
 use Rattle.template_runs.specs.Courses.{Final, Ends}
 use Rattle.template_runs.specs.Values.{added, less, to_right_signed, upper}
 use Rattle.operator_lowering.proofs.Numbers.{less_true, less_false, kept32, above32, range_of_kept32}
-use Rattle.operator_lowering.proofs.Sums.{Above32, Below32, Within32, Wraps, exact, added_wraps, added_within, added_fits}
+use Rattle.operator_lowering.proofs.Sums.{Below32, Wraps, exact, added_wraps, added_within, added_fits}
 use Rattle.operator_lowering.proofs.Trees.{by_turned, ends, one}
 
 pub upper_8 : upper 8 ≡ pos 32768

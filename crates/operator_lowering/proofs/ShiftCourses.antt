@@ -1,12 +1,10 @@
 -- The courses of shifts.
-use Rattle.std.proofs.Common.{◌≡◌, ◌≢◌, ℕ, zero, suc, ◌+◌, ◌-◌, ◌*◌, ◌/◌, ◌%◌, ◌^◌, ◌<◌, ◌≤◌, min, ℤ, pos, negsuc, ◌+ℤ◌, ◌-ℤ◌, ◌*ℤ◌, ◌≤ℤ◌, ◌<ℤ◌, neg_ℤ, Bool, true, false, not, if◌then◌else◌, ◌⊎◌, inl, inr, List, Some, refl, sym, ap, ◌∙◌, subst, arith, ⊎_elim, pow_pos, pow_mono}
-use Rattle.std.specs.Prelude.{FitsSigned, bit_and}
+use Rattle.std.proofs.Common.{◌≡◌, ℕ, zero, suc, ◌+◌, ◌*◌, ◌/◌, ◌%◌, ◌^◌, ◌<◌, ◌≤◌, min, ℤ, pos, negsuc, ◌+ℤ◌, ◌*ℤ◌, ◌≤ℤ◌, Bool, true, false, not, if◌then◌else◌, List, refl, sym, ap, ◌∙◌, subst, arith, ⊎_elim}
+use Rattle.std.specs.Prelude.{FitsSigned}
 use Rattle.std.specs.Int.{w16, w32, cast_unsigned, cast_signed}
-use Rattle.std.specs.Int.Signed.{mag}
 use Rattle.std.proofs.lemmas.Bool.{cases_lt}
 use Rattle.std.proofs.lemmas.Int.{ints, to_z_pos}
 use Rattle.std.proofs.lemmas.Nat.{and_mask}
-use Rattle.std.proofs.lemmas.Grind.{common_steps}
 use Rattle.sat_base.specs.Clip.{clip16, clip32}
 use Rattle.operator_meaning.specs.Clipping.{changes16, changes32}
 use Rattle.operator_meaning.specs.Value.{floor}
@@ -19,7 +17,7 @@ use Rattle.operator_meaning.proofs.Consequences.{shifts_round}
 use Rattle.template_runs.specs.Courses.{Final, Ends}
 use Rattle.template_runs.specs.Values.{added, taken, less, below, equal, flag_below, both_bits, to_left, to_right_signed, amount_of}
 use Rattle.operator_lowering.specs.Courses.{IsCourse}
-use Rattle.operator_lowering.proofs.Numbers.{less_true, less_false, below_true, below_false, equal_true, equal_false, kept16, kept32, range_of_kept16, range_of_kept32}
+use Rattle.operator_lowering.proofs.Numbers.{below_true, below_false, equal_true, equal_false, kept16, kept32, range_of_kept16, range_of_kept32}
 use Rattle.operator_lowering.proofs.Shifts.{right_by, right_stays, left_exact, amount_is, reaches, reaches_not}
 use Rattle.operator_lowering.proofs.ShiftTrees.{near_clamp16, near_flag16, far_clamp16, far_flag16, near_clamp32, near_flag32, far_clamp32, far_flag32, outside32, end16, end32}
 use Rattle.operator_lowering.proofs.Trees.{by_test, by_turned, ends, ends_same}

@@ -1,17 +1,17 @@
 -- Shifts by a register, as products and quotients by powers of two.
-use Rattle.std.proofs.Common.{◌≡◌, ◌≢◌, ℕ, zero, suc, ◌+◌, ◌-◌, ◌*◌, ◌/◌, ◌%◌, ◌^◌, ◌<◌, ◌≤◌, min, ℤ, pos, negsuc, ◌+ℤ◌, ◌-ℤ◌, ◌*ℤ◌, ◌≤ℤ◌, ◌<ℤ◌, neg_ℤ, Bool, true, false, ◌⊎◌, inl, inr, refl, sym, ap, ◌∙◌, subst, arith, ⊎_elim, nat_lt, pow_pos, pow_mono}
+use Rattle.std.proofs.Common.{◌≡◌, ℕ, zero, suc, ◌+◌, ◌-◌, ◌*◌, ◌/◌, ◌^◌, ◌<◌, ◌≤◌, min, ℤ, pos, negsuc, ◌-ℤ◌, ◌*ℤ◌, ◌≤ℤ◌, ◌<ℤ◌, neg_ℤ, Bool, true, false, refl, sym, ap, ◌∙◌, subst, arith, ⊎_elim, nat_lt, pow_pos, pow_mono}
 use Rattle.std.proofs.Math.Nat.{mul-div_cancel}
 use Rattle.std.proofs.Math.Pow.{pow-add}
 use Rattle.rv_encode.specs.Arithmetic.{flag_of}
 use Rattle.std.specs.Prelude.{FitsSigned}
-use Rattle.std.specs.Int.{w16, w32, cast_signed, cast_unsigned, int_wrap, int_shl, int_shr}
-use Rattle.std.specs.Int.Signed.{mag, shr_z}
-use Rattle.std.proofs.lemmas.Bool.{cases_Bool, cases_lt, ltb-true}
+use Rattle.std.specs.Int.{w16, w32, cast_unsigned, int_wrap}
+use Rattle.std.specs.Int.Signed.{shr_z}
+use Rattle.std.proofs.lemmas.Bool.{cases_lt, ltb-true}
 use Rattle.std.proofs.lemmas.Int.{ints, wrapping_mul_onto, to_z-of_z, int_wrap_fits}
 use Rattle.std.proofs.lemmas.Nat.{mul-le, div_below, div-mul-add, div-add-mod'}
 use Rattle.operator_meaning.specs.Value.{floor}
-use Rattle.operator_meaning.proofs.Shifts.{right_is, floor_is, right_fits}
-use Rattle.template_runs.specs.Values.{added, taken, to_left, to_right_signed, amount_of, flag_below, equal}
+use Rattle.operator_meaning.proofs.Shifts.{right_is, right_fits}
+use Rattle.template_runs.specs.Values.{to_left, to_right_signed, amount_of, flag_below, equal}
 
 -- ---- to the right: from 31 on a further shift changes nothing
 

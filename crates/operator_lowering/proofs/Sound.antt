@@ -1,6 +1,6 @@
 -- The words of each site fit their formats, are few, and in form Plain compare nothing.
-use Rattle.std.proofs.Common.{◌≡◌, ℕ, ◌+◌, ◌-◌, ◌/◌, ◌%◌, ◌^◌, ◌<◌, ◌≤◌, ◌⊎◌, inl, inr, ℤ, pos, negsuc, ◌-ℤ◌, Bool, true, false, ◌&&◌, nat_lt, List, [], ◌∷◌, ◌++◌, length, refl, sym, ap, ◌∙◌, subst, arith, ⊎_elim, lit≤}
-use Rattle.std.proofs.lemmas.Bool.{cases_Bool, cases_lt, and_from, lt-ltb, ltb-true}
+use Rattle.std.proofs.Common.{◌≡◌, ℕ, ◌+◌, ◌-◌, ◌/◌, ◌%◌, ◌<◌, ◌≤◌, pos, negsuc, ◌-ℤ◌, Bool, true, false, ◌&&◌, nat_lt, List, [], ◌∷◌, ◌++◌, length, refl, ap, ◌∙◌, arith, ⊎_elim, lit≤}
+use Rattle.std.proofs.lemmas.Bool.{cases_lt, lt-ltb}
 use Rattle.std.proofs.lemmas.Int.{ints}
 use Rattle.operator_meaning.specs.declared.operator.Op.{Op}
 use Rattle.operator_meaning.specs.declared.operator.Op.TheVariants as op
@@ -11,12 +11,12 @@ use Rattle.operator_meaning.specs.declared.site.Form.TheVariants.{Plain, Clamp, 
 use Rattle.operator_meaning.specs.declared.site.Guard.{Guard}
 use Rattle.operator_meaning.specs.declared.site.Guard.TheVariants.{Kept, Gone}
 use Rattle.rv_encode.specs.declared.instruction.Instr.{Instr}
-use Rattle.template_runs.specs.Fitting.{is_register, is_near, is_fit, are_fit}
+use Rattle.template_runs.specs.Fitting.{is_near, is_fit, are_fit}
 use Rattle.template_runs.specs.Plainness.{are_plain}
 use Rattle.operator_lowering.specs.Template.{may_compare}
 use Rattle.operator_lowering.specs.declared.tables.halves.TheConstants.{NEGATE_PLAIN}
 use Rattle.operator_lowering.specs.declared.tables.products.TheConstants.{DIVIDE}
-use Rattle.operator_lowering.specs.Words.{site_words, operator_words, is_small, bound_of, constant_words, stop_words, stop_size, checked_by, sum_check, difference_check, product_check, opposite_check, quotient_check, bound_check, view_check, edge_check, sample_check, sample_words}
+use Rattle.operator_lowering.specs.Words.{site_words, operator_words, is_small, bound_of, constant_words, stop_words, checked_by, sum_check, difference_check, product_check, opposite_check, quotient_check, bound_check, view_check, edge_check, sample_check, sample_words}
 
 pub record IsSound (k : SiteKind) (form : Form) (guard : Guard) (words : List Instr) : Type 0 where
   pub fit : are_fit words ≡ true

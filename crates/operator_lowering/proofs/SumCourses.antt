@@ -1,11 +1,10 @@
 -- The courses of sums and differences.
-use Rattle.std.proofs.Common.{◌≡◌, ◌≢◌, ℕ, ◌<◌, ◌^◌, ℤ, pos, negsuc, ◌+ℤ◌, ◌-ℤ◌, ◌≤ℤ◌, ◌<ℤ◌, Bool, true, false, List, refl, sym, ap, ◌∙◌, arith}
+use Rattle.std.proofs.Common.{◌≡◌, ℤ, pos, negsuc, ◌+ℤ◌, ◌-ℤ◌, ◌≤ℤ◌, ◌<ℤ◌, true, false, refl, sym, ap, ◌∙◌, arith}
 use Rattle.std.specs.Prelude.{FitsSigned}
 use Rattle.std.specs.Int.{w16, w32}
 use Rattle.std.proofs.lemmas.Int.{ints}
-use Rattle.sat_base.specs.Clip.{clip16, clip32}
+use Rattle.sat_base.specs.Clip.{clip16}
 use Rattle.operator_meaning.specs.Clipping.{changes16, changes32}
-use Rattle.operator_meaning.specs.Value.{floor}
 use Rattle.operator_meaning.specs.declared.operator.Op.TheVariants as op
 use Rattle.operator_meaning.specs.declared.site.SiteKind.TheVariants.{Call}
 use Rattle.operator_meaning.specs.declared.site.Form.{Form}
@@ -14,7 +13,7 @@ use Rattle.operator_meaning.specs.declared.site.Guard.{Guard}
 use Rattle.template_runs.specs.Values.{added, taken, less, equal, other_bits, upper, to_right_signed}
 use Rattle.operator_lowering.specs.Courses.{IsCourse}
 use Rattle.operator_lowering.proofs.Numbers.{less_true, less_false, equal_true, equal_false, kept16, above16, below16, by_range16, kept32, range_of_kept16, range_of_kept32}
-use Rattle.operator_lowering.proofs.Sums.{Within32, IsExact, IsWrapped, exact, wrapped, added_wraps, taken_wraps, added_within, taken_within, low_half, half_within, half_fits, half_above, half_below, sign_negative, sign_positive}
+use Rattle.operator_lowering.proofs.Sums.{IsExact, IsWrapped, exact, wrapped, added_wraps, taken_wraps, added_within, taken_within, low_half, half_within, half_above, half_below, sign_negative, sign_positive}
 use Rattle.operator_lowering.proofs.Trees.{by_test, by_turned, ends_same, ends_kept, ends_changed}
 
 -- ---- by the sign of the second operand, a sum is exact where it is on the right side of the first

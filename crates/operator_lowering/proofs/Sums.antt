@@ -1,9 +1,9 @@
 -- Sums and differences of 32 bits, with their clips.
-use Rattle.std.proofs.Common.{◌≡◌, ◌≢◌, ℤ, pos, negsuc, ◌+ℤ◌, ◌-ℤ◌, ◌≤ℤ◌, ◌<ℤ◌, ◌⊎◌, inl, inr, ⊎_elim, Bool, true, false, refl, sym, ap, ◌∙◌, arith}
-use Rattle.std.specs.Int.{w16, w32}
+use Rattle.std.proofs.Common.{◌≡◌, ℤ, pos, negsuc, ◌+ℤ◌, ◌-ℤ◌, ◌≤ℤ◌, ◌<ℤ◌, ◌⊎◌, inl, inr, ⊎_elim, true, false, refl, ap, ◌∙◌, arith}
+use Rattle.std.specs.Int.{w32}
 use Rattle.std.proofs.lemmas.Int.{ints}
-use Rattle.sat_base.specs.Clip.{clip16, clip32}
-use Rattle.operator_meaning.specs.Clipping.{changes16, changes32}
+use Rattle.sat_base.specs.Clip.{clip32}
+use Rattle.operator_meaning.specs.Clipping.{changes32}
 use Rattle.template_runs.specs.Values.{added, taken, to_left, to_right_signed, other_bits, upper}
 use Rattle.std.specs.Prelude.{FitsSigned}
 use Rattle.operator_lowering.proofs.Numbers.{kept32, above32, below32, by_range32}

@@ -1,15 +1,13 @@
 -- The words of each site are a template of it.
-use Rattle.std.proofs.Common.{inl, inr, ◌≡◌, ◌≢◌, ℕ, ◌+◌, ◌<◌, ◌≤◌, ◌^◌, ℤ, pos, Bool, true, false, not, ◌&&◌, ◌==◌, if◌then◌else◌, List, [], ◌∷◌, ◌++◌, length, Option, Some, None, refl, sym, ap, ◌∙◌, subst, arith, length-append}
+use Rattle.std.proofs.Common.{inl, inr, ◌≡◌, ℕ, ◌+◌, ◌<◌, ◌≤◌, ◌^◌, ℤ, pos, Bool, true, false, ◌==◌, if◌then◌else◌, List, [], ◌++◌, length, Option, Some, None, refl, ap, ◌∙◌, arith, length-append}
 use Rattle.std.specs.Prelude.{All}
-use Rattle.std.specs.Int.{w32, cast_signed, cast_unsigned}
+use Rattle.std.specs.Int.{w32}
 use Rattle.std.proofs.lemmas.Int.{ints, of_z-to_z}
 use Rattle.std.proofs.lemmas.List.{length-map}
 use Rattle.std.proofs.lemmas.List.Elements.{All-nil, All-cons, All-append}
 use Rattle.operator_meaning.specs.declared.site.SiteKind.{SiteKind}
 use Rattle.operator_meaning.specs.declared.site.Form.{Form}
-use Rattle.operator_meaning.specs.declared.site.Form.TheVariants.{Plain}
 use Rattle.operator_meaning.specs.declared.site.Guard.{Guard}
-use Rattle.operator_meaning.specs.declared.site.Guard.TheVariants.{Gone}
 use Rattle.rv_encode.specs.declared.instruction.Instr.{Instr}
 use Rattle.rv_encode.specs.declared.instruction.Instr.TheVariants.{Addi}
 use Rattle.rv_encode.specs.Comparing.{is_comparing}
@@ -17,16 +15,16 @@ use Rattle.rv_encode.specs.State.{MachineState, Moment, Running, Over, Stopped, 
 use Rattle.rv_encode.specs.Runs.{moment_after}
 use Rattle.rv_encode.specs.Words.{Fits}
 use Rattle.template_runs.specs.declared.registers.Registers.{Registers}
-use Rattle.template_runs.specs.Machine.{IsBefore, IsFinal, StandHere}
+use Rattle.template_runs.specs.Machine.{IsFinal}
 use Rattle.template_runs.specs.Renaming.{AreInRange, IsPlace, all_over, over}
 use Rattle.template_runs.proofs.Fits.{all_fit}
 use Rattle.template_runs.proofs.Plain.{plain_stay}
 use Rattle.operator_lowering.specs.Laws.{IsFormOf}
 use Rattle.operator_lowering.specs.Sites.{site_value, led_to, site_final}
-use Rattle.operator_lowering.specs.Template.{ArePlaces, AreAsked, IsAfter, DoesSite, TemplateHolds, makes_calls, may_compare}
+use Rattle.operator_lowering.specs.Template.{ArePlaces, IsAfter, DoesSite, TemplateHolds, makes_calls}
 use Rattle.operator_lowering.specs.declared.way.Way.{Way}
 use Rattle.operator_lowering.specs.declared.way.Way.TheVariants.{Straight, Moves, KeepsFirst, KeepsThird, Turns}
-use Rattle.operator_lowering.specs.Words.{front, places, copy, keeps_first, turns, way_of, site_words, template_words}
+use Rattle.operator_lowering.specs.Words.{front, places, copy, turns, way_of, site_words, template_words}
 use Rattle.operator_lowering.proofs.Begins.{begins}
 use Rattle.operator_lowering.proofs.Ready.{ready}
 use Rattle.operator_lowering.proofs.Sound.{sound}

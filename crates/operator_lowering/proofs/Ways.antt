@@ -1,8 +1,7 @@
 -- What the machine does over the registers of a site, by the way in which the words begin.
-use Rattle.std.proofs.Common.{◌≡◌, ◌≢◌, ℕ, zero, suc, ◌+◌, ◌<◌, ◌≤◌, ◌⊎◌, inl, inr, ℤ, pos, Bool, true, false, not, ◌&&◌, ◌==◌, if◌then◌else◌, List, [], ◌∷◌, ◌++◌, length, refl, sym, ap, ◌∙◌, subst, arith, ⊎_elim}
-use Rattle.std.specs.Prelude.{FitsSigned, All}
+use Rattle.std.proofs.Common.{◌≡◌, ◌≢◌, ℕ, suc, ◌+◌, ◌≤◌, ◌⊎◌, inl, inr, pos, Bool, true, false, List, [], ◌∷◌, length, refl, sym, ap, ◌∙◌, subst, arith, ⊎_elim}
+use Rattle.std.specs.Prelude.{FitsSigned}
 use Rattle.std.specs.Int.{w32}
-use Rattle.std.proofs.lemmas.Bool.{cases_Bool, eqb-true, eq-eqb}
 use Rattle.std.proofs.lemmas.List.{length-map}
 use Rattle.std.proofs.lemmas.List.Elements.{All-nil, All-cons, All-head, All-tail}
 use Rattle.rv_encode.specs.declared.instruction.Instr.{Instr}
@@ -12,12 +11,11 @@ use Rattle.rv_encode.specs.Runs.{moment_after, next_moment}
 use Rattle.rv_encode.specs.Words.{Fits}
 use Rattle.template_runs.specs.declared.registers.Registers.{Registers}
 use Rattle.template_runs.specs.Copies.{IsCopied}
-use Rattle.template_runs.specs.Courses.{Final, Ends, Stops, Lost, is_scratch, is_call, runs}
-use Rattle.template_runs.specs.Machine.{StandHere, IsBefore, Leaves, IsFinal, begun, course_of}
+use Rattle.template_runs.specs.Courses.{Final, Ends, Stops, Lost, is_scratch}
+use Rattle.template_runs.specs.Machine.{StandHere, IsBefore, IsFinal, course_of}
 use Rattle.template_runs.specs.Renaming.{AreInRange, IsPlace, renamed, all_over}
 use Rattle.template_runs.proofs.Copies.{adds_copy}
 use Rattle.template_runs.proofs.Follows.{courses_are_runs}
-use Rattle.operator_lowering.specs.Template.{ArePlaces}
 
 -- within 4,096 instructions the machine comes from before some words to where a course comes
 abbrev pub Done : (result : ℕ) → (calls : Bool) → List ℕ → (place : ℕ) → List Instr → MachineState → Final → Type 0

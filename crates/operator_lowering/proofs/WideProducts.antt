@@ -1,11 +1,10 @@
 -- A product of two numbers of 32 bits, in two registers.
-use Rattle.std.proofs.Common.{◌≡◌, ◌≢◌, ℕ, ◌+◌, ◌-◌, ◌*◌, ◌/◌, ◌%◌, ◌<◌, ◌≤◌, ◌^◌, ℤ, pos, negsuc, ◌+ℤ◌, ◌-ℤ◌, ◌*ℤ◌, ◌≤ℤ◌, ◌<ℤ◌, Bool, true, false, refl, sym, ap, ◌∙◌, subst, arith}
+use Rattle.std.proofs.Common.{◌≡◌, ℕ, ◌-◌, ◌/◌, ◌%◌, ℤ, pos, negsuc, ◌*ℤ◌, refl, sym, ap, ◌∙◌, arith}
 use Rattle.std.specs.Prelude.{FitsSigned}
-use Rattle.std.specs.Int.{w32, cast_signed, int_wrap, int_shr, int_wrapping_mul}
-use Rattle.std.proofs.lemmas.Int.{ints, wrapping_mul_is, int_wrap_fits, SFits-int_wrap}
+use Rattle.std.specs.Int.{w32, cast_signed, int_wrap, int_shr}
+use Rattle.std.proofs.lemmas.Int.{ints, wrapping_mul_is}
 use Rattle.template_runs.specs.Values.{multiplied, multiplied_high, to_right_signed}
-use Rattle.operator_lowering.proofs.Sums.{Within32, sign_negative, sign_positive}
-use Rattle.operator_lowering.proofs.Numbers.{by_range32}
+use Rattle.operator_lowering.proofs.Sums.{Within32}
 
 wrap_pos : (n : ℕ) → int_wrap w32 (pos n) ≡ cast_signed w32 (n % 4294967296)
 unfolding int_wrap

@@ -1,7 +1,6 @@
 -- What the course of each site is.
 use Rattle.std.specs.Prelude.{◌≡◌, ℕ, ◌<◌, ◌^◌, ℤ, Bool, true, false, List}
 use Rattle.operator_meaning.specs.declared.site.SiteKind.{SiteKind}
-use Rattle.operator_meaning.specs.declared.site.SiteKind.TheVariants as kind
 use Rattle.operator_meaning.specs.declared.site.Form.{Form}
 use Rattle.operator_meaning.specs.declared.site.Guard.{Guard}
 use Rattle.template_runs.specs.Courses.{Final, runs}
@@ -9,7 +8,7 @@ use Rattle.template_runs.specs.Machine.{begun}
 use Rattle.operator_lowering.specs.Sites.{site_final}
 use Rattle.operator_lowering.specs.Template.{AreAsked, makes_calls}
 use Rattle.operator_lowering.specs.declared.way.Way.{Way}
-use Rattle.operator_lowering.specs.declared.way.Way.TheVariants.{Straight, Moves, KeepsFirst, KeepsThird, Turns}
+use Rattle.operator_lowering.specs.declared.way.Way.TheVariants.{Moves, KeepsFirst, KeepsThird, Turns}
 use Rattle.operator_lowering.specs.Words.{way_of, site_words}
 
 -- the operand that is known to be apart from the result

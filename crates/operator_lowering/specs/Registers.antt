@@ -1,5 +1,5 @@
 -- The registers of a site, by the places of a template.
-use Rattle.std.specs.Prelude.{◌≡◌, ℕ, All, length, slice_index_or}
+use Rattle.std.specs.Prelude.{◌≡◌, All, length, slice_index_or}
 use Rattle.operator_meaning.specs.declared.site.SiteKind.{SiteKind}
 use Rattle.template_runs.specs.declared.registers.Registers.{Registers}
 use Rattle.template_runs.specs.Renaming.{IsPlace}

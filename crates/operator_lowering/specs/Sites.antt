@@ -1,8 +1,7 @@
 -- What a site gives of its operands, and where it stops.
-use Rattle.std.specs.Prelude.{◌≡◌, ℕ, ◌+◌, ◌==◌, ℤ, pos, negsuc, ◌+ℤ◌, ◌-ℤ◌, ◌*ℤ◌, Bool, true, false, int_lt, int_le, ◌&&◌, not, if◌then◌else◌, List, [], ◌∷◌, Option, Some, None, take, replicate}
+use Rattle.std.specs.Prelude.{ℕ, ℤ, pos, negsuc, ◌+ℤ◌, ◌-ℤ◌, ◌*ℤ◌, Bool, false, int_lt, if◌then◌else◌, List, [], ◌∷◌, Option, Some, None, take, replicate}
 use Rattle.std.proofs.Math.IntN.{neg_ℤ}
 use Rattle.std.specs.Int.{w32, cast_signed}
-use Rattle.operator_meaning.specs.declared.operator.Op.{Op}
 use Rattle.operator_meaning.specs.declared.site.SiteKind.{SiteKind}
 use Rattle.operator_meaning.specs.declared.site.SiteKind.TheVariants as kind
 use Rattle.operator_meaning.specs.declared.site.Form.{Form}

@@ -1,14 +1,13 @@
 -- What is promised of a template.
-use Rattle.std.specs.Prelude.{◌≡◌, ◌≢◌, ℕ, ◌+◌, ◌≤◌, ◌<◌, ◌^◌, ℤ, Bool, true, false, List, Option, Some, None, All, FitsSigned, length}
+use Rattle.std.specs.Prelude.{◌≡◌, ◌≢◌, ℕ, ◌+◌, ◌≤◌, ℤ, Bool, true, false, List, Option, Some, None, All, FitsSigned, length}
 use Rattle.std.specs.Int.{w16}
-use Rattle.operator_meaning.specs.declared.operator.Op.{Op}
 use Rattle.operator_meaning.specs.declared.operator.Op.TheVariants as op
 use Rattle.operator_meaning.specs.declared.site.SiteKind.{SiteKind}
 use Rattle.operator_meaning.specs.declared.site.SiteKind.TheVariants as kind
 use Rattle.operator_meaning.specs.declared.site.Form.{Form}
-use Rattle.operator_meaning.specs.declared.site.Form.TheVariants.{Plain, Clamp, Flag}
+use Rattle.operator_meaning.specs.declared.site.Form.TheVariants.{Plain}
 use Rattle.operator_meaning.specs.declared.site.Guard.{Guard}
-use Rattle.operator_meaning.specs.declared.site.Guard.TheVariants.{Kept, Gone}
+use Rattle.operator_meaning.specs.declared.site.Guard.TheVariants.{Gone}
 use Rattle.rv_encode.specs.declared.instruction.Instr.{Instr}
 use Rattle.rv_encode.specs.Comparing.{is_comparing}
 use Rattle.rv_encode.specs.declared.register.TheConstants.{OVERFLOW}

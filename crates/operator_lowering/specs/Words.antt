@@ -1,5 +1,5 @@
 -- The words of each site.
-use Rattle.std.specs.Prelude.{ℕ, ◌+◌, ◌-◌, ◌*◌, ◌/◌, ◌%◌, ◌^◌, ℤ, pos, ◌-ℤ◌, Bool, true, false, ◌==◌, ◌&&◌, not, min, nat_lt, if◌then◌else◌, List, [], ◌∷◌, ◌++◌, length}
+use Rattle.std.specs.Prelude.{ℕ, ◌+◌, ◌/◌, ◌%◌, ◌^◌, pos, ◌-ℤ◌, Bool, true, false, ◌==◌, ◌&&◌, not, min, nat_lt, if◌then◌else◌, List, [], ◌∷◌, ◌++◌}
 use Rattle.operator_meaning.specs.declared.operator.Op.{Op}
 use Rattle.operator_meaning.specs.declared.operator.Op.TheVariants as op
 use Rattle.operator_meaning.specs.declared.site.SiteKind.{SiteKind}
@@ -9,14 +9,14 @@ use Rattle.operator_meaning.specs.declared.site.Form.TheVariants.{Plain, Clamp, 
 use Rattle.operator_meaning.specs.declared.site.Guard.{Guard}
 use Rattle.operator_meaning.specs.declared.site.Guard.TheVariants.{Kept, Gone}
 use Rattle.rv_encode.specs.declared.instruction.Instr.{Instr}
-use Rattle.rv_encode.specs.declared.instruction.Instr.TheVariants.{Lui, Addi, Add, Sub, Mul, Mulh, Srai, Slli, Srli, Div, Beq, Bne, Blt, Bge, Bltu, Bgeu, Jal, Ecall}
+use Rattle.rv_encode.specs.declared.instruction.Instr.TheVariants.{Lui, Addi, Add, Sub, Mul, Mulh, Srai, Beq, Bne, Blt, Bge, Bltu, Bgeu, Jal, Ecall}
 use Rattle.template_runs.specs.declared.registers.Registers.{Registers}
 use Rattle.template_runs.specs.Renaming.{all_over}
 use Rattle.operator_lowering.specs.declared.way.Way.{Way}
 use Rattle.operator_lowering.specs.declared.way.Way.TheVariants.{Straight, Moves, KeepsFirst, KeepsThird, Turns}
 use Rattle.operator_lowering.specs.declared.tables.sums.TheConstants.{SUM, DIFFERENCE, L_ADD_CLAMP, L_ADD_FLAG, L_SUB_CLAMP, L_SUB_FLAG, ROUND_PLAIN, ROUND_CLAMP, ROUND_FLAG}
 use Rattle.operator_lowering.specs.declared.tables.clips.TheConstants.{CLIP_16_CLAMP, CLIP_16_FLAG, CLIP_FRACTION_CLAMP, CLIP_FRACTION_FLAG}
-use Rattle.operator_lowering.specs.declared.tables.halves.TheConstants.{EXTRACT_H, EXTRACT_L, DEPOSIT_H, MOVE, ABS_PLAIN, ABS_16, ABS_32, NEGATE_PLAIN, NEGATE_16, NEGATE_32}
+use Rattle.operator_lowering.specs.declared.tables.halves.TheConstants.{EXTRACT_H, EXTRACT_L, DEPOSIT_H, ABS_PLAIN, ABS_16, ABS_32, NEGATE_PLAIN, NEGATE_16, NEGATE_32}
 use Rattle.operator_lowering.specs.declared.tables.products.TheConstants.{PRODUCT, MULT, MULT_R, L_MULT_PLAIN, L_MULT_CLAMP, L_MULT_FLAG, DIVIDE}
 use Rattle.operator_lowering.specs.declared.tables.accumulations.TheConstants.{L_MAC_PLAIN, L_MAC_CLAMP, L_MAC_FLAG, L_MSU_PLAIN, L_MSU_CLAMP, L_MSU_FLAG}
 use Rattle.operator_lowering.specs.declared.tables.rounded_accumulations.TheConstants.{MAC_PLAIN, MAC_CLAMP, MAC_FLAG, MSU_PLAIN, MSU_CLAMP, MSU_FLAG, ROUND_SUM_CLAMP, ROUND_SUM_FLAG}

@@ -1,4 +1,4 @@
-use Rattle.std.proofs.Common.{sym, ap, ◌∙◌, subst, arith, ◌++◌, ◌∷◌, [], length, ◌<◌, map, take}
+use Rattle.std.proofs.Common.{sym, ap, ◌∙◌, subst, ◌++◌, ◌∷◌, [], length, ◌<◌, map, take}
 use Rattle.template_runs.specs.Renaming.{all_over}
 use Rattle.std.proofs.lemmas.List.{take_all}
 use Rattle.rv_encode.specs.Words.{Fits, encoded}
