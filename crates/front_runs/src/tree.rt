@@ -1,14 +1,18 @@
 // The trees of texts.
 
-use crate::text::cut;
+use c_lexer::tokens;
 use c_reader::{ReadRefusal, read};
 use c_tree::Program;
+use sat_base::limits::SOURCE_BYTES;
 use std::alloc::{AllocError, Global};
 
 /// What is read of a text that has no lexical fault and is not too long.
 pub fn read_text(alloc: Global, text: &[u8]) -> Option<Result<Program, ReadRefusal>> {
-    let tokens = cut(alloc, text)?.ok()?;
-    Some(read(alloc, &tokens))
+    if text.len() > SOURCE_BYTES {
+        return None;
+    }
+    let found = tokens(alloc, text).ok()?;
+    Some(read(alloc, &found))
 }
 
 /// How many items a text has, or why and where it is refused.
