@@ -10,8 +10,9 @@ use Rattle.template_runs.specs.Values.{added, taken, less, equal, upper}
 use Rattle.template_runs.specs.Courses.{runs}
 use Rattle.template_runs.specs.Machine.{begun}
 use Rattle.operator_lowering.specs.declared.tables.halves.TheConstants.{NEGATE_PLAIN}
-use Rattle.operator_lowering.specs.Courses.{IsCourse}
+use Rattle.operator_lowering.specs.Courses.{IsCourse, apart_of}
 use Rattle.operator_lowering.specs.Sites.{of_32_bits, led_to}
+use Rattle.operator_lowering.specs.declared.way.Way.TheVariants.{Straight, KeepsFirst, Turns}
 use Rattle.operator_lowering.specs.Words.{checked_by, sum_check, difference_check, opposite_check}
 use Rattle.operator_lowering.proofs.Constants.{by_size, five}
 use Rattle.operator_lowering.proofs.Leads.{between_inside, between_above, between_below, leads, halts}
@@ -116,7 +117,7 @@ pub sum_kept : IsCourse kind.Sum Plain Kept
 sum_kept site a b c flag input small asked =
     let fa = asked.fit.0 in
     let fb = asked.fit.1.0 in
-    let way = λ (b' : Bool). runs (checked_by b' sum_check site) 0 (begun 11 false false a b c flag input) ≡ led_to (of_32_bits (a +ℤ b)) site flag input in
+    let way = λ (b' : Bool). runs (checked_by b' sum_check site) 0 (begun (apart_of Turns) false false a b c flag input) ≡ led_to (of_32_bits (a +ℤ b)) site flag input in
     by_size site
     (λ e number. subst way (sym e)
     (by_test (less b (pos 0))
@@ -137,7 +138,7 @@ pub difference_kept : IsCourse kind.Difference Plain Kept
 difference_kept site a b c flag input small asked =
     let fa = asked.fit.0 in
     let fb = asked.fit.1.0 in
-    let way = λ (b' : Bool). runs (checked_by b' difference_check site) 0 (begun 11 false false a b c flag input) ≡ led_to (of_32_bits (a -ℤ b)) site flag input in
+    let way = λ (b' : Bool). runs (checked_by b' difference_check site) 0 (begun (apart_of KeepsFirst) false false a b c flag input) ≡ led_to (of_32_bits (a -ℤ b)) site flag input in
     by_size site
     (λ e number. subst way (sym e)
     (by_test (less b (pos 0))
@@ -168,7 +169,7 @@ opposite_gone site a b c flag input small asked =
 
 pub opposite_kept : IsCourse kind.Opposite Plain Kept
 opposite_kept site a b c flag input small asked =
-    let way = λ (b' : Bool). runs (checked_by b' opposite_check site ++ NEGATE_PLAIN) 0 (begun 0 false false a b c flag input) ≡ led_to (of_32_bits (neg_ℤ a)) site flag input in
+    let way = λ (b' : Bool). runs (checked_by b' opposite_check site ++ NEGATE_PLAIN) 0 (begun (apart_of Straight) false false a b c flag input) ≡ led_to (of_32_bits (neg_ℤ a)) site flag input in
     by_size site
     (λ e number. subst way (sym e)
     (by_turned (equal a (upper 0x80000)) (λ t. rw five (halts site flag input number (opposite_stops a (equal_true _ _ t ∙ least))))

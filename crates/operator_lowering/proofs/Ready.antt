@@ -23,7 +23,7 @@ use Rattle.operator_lowering.proofs.Begins.{Needs, LeadsBy}
 
 abbrev pub IsReady : SiteKind → Form → Guard → Type 0
 IsReady k form guard = (site : ℕ) (a b c flag : ℤ) (input : List ℤ) → site < 2 ^ 32 → AreAsked k form guard a b c input
-    → Needs (way_of k form guard) a c × LeadsBy (way_of k form guard) (makes_calls k) (site_words k form guard site) a b c flag input (site_final k form site a b c flag input)
+    → Needs (way_of k form guard) a b c × LeadsBy (way_of k form guard) (makes_calls k) (site_words k form guard site) a b c flag input (site_final k form site a b c flag input)
 
 long_of_short : (a : ℤ) → FitsSigned w16 a → FitsSigned w32 a
 long_of_short a fits = grind (arith, ints)
@@ -94,7 +94,9 @@ operator_ready op.LSub Clamp guard site a b c flag input small asked = (asked.fi
 operator_ready op.LSub Flag guard site a b c flag input small asked = (asked.fit.0, operator_course op.LSub Flag guard site a b c flag input small asked)
 operator_ready op.LNegate form guard site a b c flag input small asked = (tt, operator_course op.LNegate form guard site a b c flag input small asked)
 operator_ready op.MultR form guard site a b c flag input small asked = (tt, operator_course op.MultR form guard site a b c flag input small asked)
-operator_ready op.LShl form guard site a b c flag input small asked = (tt, operator_course op.LShl form guard site a b c flag input small asked)
+operator_ready op.LShl Plain guard site a b c flag input small asked = (tt, operator_course op.LShl Plain guard site a b c flag input small asked)
+operator_ready op.LShl Clamp guard site a b c flag input small asked = ((asked.fit.0, long_of_short b asked.fit.1.0), operator_course op.LShl Clamp guard site a b c flag input small asked)
+operator_ready op.LShl Flag guard site a b c flag input small asked = ((asked.fit.0, long_of_short b asked.fit.1.0), operator_course op.LShl Flag guard site a b c flag input small asked)
 operator_ready op.LShr form guard site a b c flag input small asked = (tt, operator_course op.LShr form guard site a b c flag input small asked)
 operator_ready op.ShrR form guard site a b c flag input small asked = (tt, operator_course op.ShrR form guard site a b c flag input small asked)
 operator_ready op.LShrR form guard site a b c flag input small asked = (tt, operator_course op.LShrR form guard site a b c flag input small asked)

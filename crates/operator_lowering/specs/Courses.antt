@@ -1,5 +1,5 @@
 -- What the course of each site is.
-use Rattle.std.specs.Prelude.{◌≡◌, ℕ, ◌<◌, ◌^◌, ℤ, Bool, true, false, List}
+use Rattle.std.specs.Prelude.{◌≡◌, ℕ, ◌<◌, ◌^◌, ℤ, Bool, true, false, ◌==◌, ◌||◌, List}
 use Rattle.operator_meaning.specs.declared.site.SiteKind.{SiteKind}
 use Rattle.operator_meaning.specs.declared.site.Form.{Form}
 use Rattle.operator_meaning.specs.declared.site.Guard.{Guard}
@@ -8,15 +8,16 @@ use Rattle.template_runs.specs.Machine.{begun}
 use Rattle.operator_lowering.specs.Sites.{site_final}
 use Rattle.operator_lowering.specs.Template.{AreAsked, makes_calls}
 use Rattle.operator_lowering.specs.declared.way.Way.{Way}
-use Rattle.operator_lowering.specs.declared.way.Way.TheVariants.{Moves, KeepsFirst, KeepsThird, Turns}
+use Rattle.operator_lowering.specs.declared.way.Way.TheVariants.{Moves, KeepsFirst, KeepsThird, KeepsBoth, Turns}
 use Rattle.operator_lowering.specs.Words.{way_of, site_words}
 
--- the operand that is known to be apart from the result
-abbrev pub apart_of : Way → ℕ
-apart_of KeepsFirst = 11
-apart_of Turns = 11
-apart_of KeepsThird = 13
-apart_of way = 0
+-- the operands that are known to be apart from the result
+abbrev pub apart_of : Way → ℕ → Bool
+apart_of KeepsFirst number = number == 11
+apart_of Turns number = number == 11
+apart_of KeepsThird number = number == 13
+apart_of KeepsBoth number = (number == 11) || (number == 12)
+apart_of way number = false
 
 -- whether the result has the first operand
 abbrev pub is_moved : Way → Bool

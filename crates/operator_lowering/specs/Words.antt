@@ -1,5 +1,5 @@
 -- The words of each site.
-use Rattle.std.specs.Prelude.{ℕ, ◌+◌, ◌/◌, ◌%◌, ◌^◌, pos, ◌-ℤ◌, Bool, true, false, ◌==◌, ◌&&◌, not, min, nat_lt, if◌then◌else◌, List, [], ◌∷◌, ◌++◌}
+use Rattle.std.specs.Prelude.{ℕ, ◌+◌, ◌/◌, ◌%◌, ◌^◌, pos, ◌-ℤ◌, Bool, true, false, ◌==◌, ◌&&◌, ◌||◌, not, min, nat_lt, if◌then◌else◌, List, [], ◌∷◌, ◌++◌}
 use Rattle.operator_meaning.specs.declared.operator.Op.{Op}
 use Rattle.operator_meaning.specs.declared.operator.Op.TheVariants as op
 use Rattle.operator_meaning.specs.declared.site.SiteKind.{SiteKind}
@@ -13,15 +13,15 @@ use Rattle.rv_encode.specs.declared.instruction.Instr.TheVariants.{Lui, Addi, Ad
 use Rattle.template_runs.specs.declared.registers.Registers.{Registers}
 use Rattle.template_runs.specs.Renaming.{all_over}
 use Rattle.operator_lowering.specs.declared.way.Way.{Way}
-use Rattle.operator_lowering.specs.declared.way.Way.TheVariants.{Straight, Moves, KeepsFirst, KeepsThird, Turns}
-use Rattle.operator_lowering.specs.declared.tables.sums.TheConstants.{SUM, DIFFERENCE, L_ADD_CLAMP, L_ADD_FLAG, L_SUB_CLAMP, L_SUB_FLAG, ROUND_PLAIN, ROUND_CLAMP, ROUND_FLAG}
+use Rattle.operator_lowering.specs.declared.way.Way.TheVariants.{Straight, Moves, KeepsFirst, KeepsThird, KeepsBoth, Turns}
+use Rattle.operator_lowering.specs.declared.tables.sums.TheConstants.{SUM, DIFFERENCE, L_ADD_CLAMP, L_ADD_FLAG, L_SUB_CLAMP, L_SUB_FLAG, ROUND_PLAIN, ROUND_CLAMP, ROUND_FLAG, ROUND_SUM_CLAMP, ROUND_SUM_FLAG}
 use Rattle.operator_lowering.specs.declared.tables.clips.TheConstants.{CLIP_16_CLAMP, CLIP_16_FLAG, CLIP_FRACTION_CLAMP, CLIP_FRACTION_FLAG}
 use Rattle.operator_lowering.specs.declared.tables.halves.TheConstants.{EXTRACT_H, EXTRACT_L, DEPOSIT_H, ABS_PLAIN, ABS_16, ABS_32, NEGATE_PLAIN, NEGATE_16, NEGATE_32}
 use Rattle.operator_lowering.specs.declared.tables.products.TheConstants.{PRODUCT, MULT, MULT_R, L_MULT_PLAIN, L_MULT_CLAMP, L_MULT_FLAG, DIVIDE}
-use Rattle.operator_lowering.specs.declared.tables.accumulations.TheConstants.{L_MAC_PLAIN, L_MAC_CLAMP, L_MAC_FLAG, L_MSU_PLAIN, L_MSU_CLAMP, L_MSU_FLAG}
-use Rattle.operator_lowering.specs.declared.tables.rounded_accumulations.TheConstants.{MAC_PLAIN, MAC_CLAMP, MAC_FLAG, MSU_PLAIN, MSU_CLAMP, MSU_FLAG, ROUND_SUM_CLAMP, ROUND_SUM_FLAG}
-use Rattle.operator_lowering.specs.declared.tables.short_shifts.TheConstants.{SHL_PLAIN, SHL_CLAMP, SHL_FLAG, SHR_PLAIN, SHR_CLAMP, SHR_FLAG, SHR_R_PLAIN, SHR_R_CLAMP, SHR_R_FLAG}
-use Rattle.operator_lowering.specs.declared.tables.long_shifts.TheConstants.{L_SHL_CLAMP, L_SHL_FLAG, L_SHR_CLAMP, L_SHR_FLAG, L_SHR_R_PLAIN, L_SHR_R_CLAMP, L_SHR_R_FLAG}
+use Rattle.operator_lowering.specs.declared.tables.accumulations.TheConstants.{L_MAC_PLAIN, L_MAC_CLAMP, L_MAC_FLAG, L_MSU_PLAIN, L_MSU_CLAMP, L_MSU_FLAG, MAC_PLAIN, MAC_CLAMP, MAC_FLAG, MSU_PLAIN, MSU_CLAMP, MSU_FLAG}
+use Rattle.operator_lowering.specs.declared.tables.plain_shifts.TheConstants.{SHL_PLAIN, SHR_PLAIN, SHR_R_PLAIN, L_SHR_R_PLAIN}
+use Rattle.operator_lowering.specs.declared.tables.short_shifts.TheConstants.{SHL_CLAMP, SHL_FLAG, SHR_CLAMP, SHR_FLAG, SHR_R_CLAMP, SHR_R_FLAG}
+use Rattle.operator_lowering.specs.declared.tables.long_shifts.TheConstants.{L_SHL_CLAMP, L_SHL_FLAG, L_SHR_CLAMP, L_SHR_FLAG, L_SHR_R_CLAMP, L_SHR_R_FLAG}
 use Rattle.operator_lowering.specs.declared.tables.norms.TheConstants.{NORM_S, NORM_L}
 
 -- one of three by the form
@@ -168,6 +168,7 @@ operator_way op.LMac form = by_clip KeepsFirst form
 operator_way op.LMsu form = by_clip KeepsFirst form
 operator_way op.LSub form = by_clip KeepsFirst form
 operator_way op.LAdd form = by_clip Turns form
+operator_way op.LShl form = by_clip KeepsBoth form
 operator_way op form = Straight
 
 abbrev pub way_of : SiteKind → Form → Guard → Way
@@ -190,11 +191,16 @@ keeps_first regs = regs.result == regs.first
 abbrev pub turns : Registers → Bool
 turns regs = (regs.result == regs.first) && not (regs.result == regs.second)
 
+-- the register of an operand, or x28 where it is that of the result
+abbrev pub kept_at : (result number : ℕ) → ℕ
+kept_at result number = if result == number then 28 else number
+
 abbrev pub front : Way → Registers → List Instr
 front Straight regs = []
 front Moves regs = if regs.result == regs.first then [] else copy regs.result regs.first
 front KeepsFirst regs = if keeps_first regs then copy 28 regs.first else []
 front KeepsThird regs = if regs.result == regs.third then copy 28 regs.third else []
+front KeepsBoth regs = if (regs.result == regs.first) || (regs.result == regs.second) then copy 28 regs.result else []
 front Turns regs = if turns regs then [] else (if keeps_first regs then copy 28 regs.first else [])
 
 -- the registers of the words after that
@@ -203,6 +209,7 @@ places Straight regs = regs
 places Moves regs = record regs { first = regs.result }
 places KeepsFirst regs = if keeps_first regs then record regs { first = 28 } else regs
 places KeepsThird regs = if regs.result == regs.third then record regs { third = 28 } else regs
+places KeepsBoth regs = record regs { first = kept_at regs.result regs.first; second = kept_at regs.result regs.second }
 places Turns regs =
     if turns regs then record regs { first = regs.second; second = regs.first } else
     (if keeps_first regs then record regs { first = 28 } else regs)

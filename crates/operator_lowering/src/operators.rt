@@ -4,27 +4,25 @@ ghost use Rattle.std.specs.Prelude.{◌≡◌, ◌++◌};
 ghost use Rattle.operator_lowering.specs.Words.{by_form, operator_words};
 
 use crate::tables::accumulations::{
-    L_MAC_CLAMP, L_MAC_FLAG, L_MAC_PLAIN, L_MSU_CLAMP, L_MSU_FLAG, L_MSU_PLAIN,
+    L_MAC_CLAMP, L_MAC_FLAG, L_MAC_PLAIN, L_MSU_CLAMP, L_MSU_FLAG, L_MSU_PLAIN, MAC_CLAMP,
+    MAC_FLAG, MAC_PLAIN, MSU_CLAMP, MSU_FLAG, MSU_PLAIN,
 };
 use crate::tables::clips::{CLIP_16_CLAMP, CLIP_16_FLAG, CLIP_FRACTION_CLAMP, CLIP_FRACTION_FLAG};
 use crate::tables::halves::{
     ABS_16, ABS_32, ABS_PLAIN, DEPOSIT_H, EXTRACT_H, EXTRACT_L, NEGATE_16, NEGATE_32, NEGATE_PLAIN,
 };
 use crate::tables::long_shifts::{
-    L_SHL_CLAMP, L_SHL_FLAG, L_SHR_CLAMP, L_SHR_FLAG, L_SHR_R_CLAMP, L_SHR_R_FLAG, L_SHR_R_PLAIN,
+    L_SHL_CLAMP, L_SHL_FLAG, L_SHR_CLAMP, L_SHR_FLAG, L_SHR_R_CLAMP, L_SHR_R_FLAG,
 };
 use crate::tables::norms::{NORM_L, NORM_S};
+use crate::tables::plain_shifts::{L_SHR_R_PLAIN, SHL_PLAIN, SHR_PLAIN, SHR_R_PLAIN};
 use crate::tables::products::{DIVIDE, L_MULT_CLAMP, L_MULT_FLAG, L_MULT_PLAIN, MULT, MULT_R};
-use crate::tables::rounded_accumulations::{
-    MAC_CLAMP, MAC_FLAG, MAC_PLAIN, MSU_CLAMP, MSU_FLAG, MSU_PLAIN, ROUND_SUM_CLAMP, ROUND_SUM_FLAG,
-};
 use crate::tables::short_shifts::{
-    SHL_CLAMP, SHL_FLAG, SHL_PLAIN, SHR_CLAMP, SHR_FLAG, SHR_PLAIN, SHR_R_CLAMP, SHR_R_FLAG,
-    SHR_R_PLAIN,
+    SHL_CLAMP, SHL_FLAG, SHR_CLAMP, SHR_FLAG, SHR_R_CLAMP, SHR_R_FLAG,
 };
 use crate::tables::sums::{
     DIFFERENCE, L_ADD_CLAMP, L_ADD_FLAG, L_SUB_CLAMP, L_SUB_FLAG, ROUND_CLAMP, ROUND_FLAG,
-    ROUND_PLAIN, SUM,
+    ROUND_PLAIN, ROUND_SUM_CLAMP, ROUND_SUM_FLAG, SUM,
 };
 use operator_meaning::{Form, Op};
 use rv_encode::Instr;

@@ -1,0 +1,4 @@
+pub mod Tree
+pub mod Placed
+pub mod FullForms
+pub mod Costs

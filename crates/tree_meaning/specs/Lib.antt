@@ -1,0 +1,4 @@
+pub mod Parts
+pub mod Trees
+pub mod Observed
+pub mod Examples
