@@ -1,20 +1,7 @@
-// The compiler as a command: `satc build SRC IMG`.
+// The compiler as a command: `satc` and its words, on the files and the output of the system.
 #![tactic(auto)]
 
-mod build;
-#[cfg(test)]
-mod failure_tests;
-mod files;
-mod gathered;
-mod outcome;
-#[cfg(test)]
-mod refusal_tests;
-mod satc;
-#[cfg(test)]
-mod tests;
-mod words;
-
-use crate::gathered::{gather, start};
+use sat_tool::{gather, start};
 use std::process::ExitCode;
 use store_io::{FileStore, StdSink};
 

@@ -1,5 +1,5 @@
 use Rattle.sat_tool.specs.Run as run
-use Rattle.sat_tool.proofs.satc.outcome_of.Goals as goal
+use Rattle.sat_tool.proofs.top_call.outcome_of.Goals as goal
 
 pub returns-in_default-clause-comes : goal.returns-in_default-clause-comes
 returns-in_default-clause-comes g c = run.nowhere c.in_default.ensures.none

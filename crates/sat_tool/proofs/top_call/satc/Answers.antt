@@ -1,5 +1,5 @@
 use Rattle.sat_tool.proofs.Headline.{builds_accepted, refuses_others}
-use Rattle.sat_tool.proofs.satc.satc.Goals as goal
+use Rattle.sat_tool.proofs.top_call.satc.Goals as goal
 
 pub returns-clause-built : goal.returns-clause-built
 returns-clause-built g c = builds_accepted _ _ _ _ (record { outcome = c.outcome_of-outcome.result; comes = c.outcome_of-outcome.ensures.comes; tells = c.tell.ensures.told; store_later = c.outcome_of-outcome.ensures.later; sink_later = c.tell.ensures.later })

@@ -1,6 +1,6 @@
 use Rattle.std.proofs.Common.{Err, ap, rules}
 use Rattle.sat_tool.specs.Run as run
-use Rattle.sat_tool.proofs.satc.tell.Goals as goal
+use Rattle.sat_tool.proofs.top_call.tell.Goals as goal
 
 pub returns-in_default-clause-told : goal.returns-in_default-clause-told
 returns-in_default-clause-told g c = rw c.status.ensures (run.silent (search rules))
