@@ -1,6 +1,6 @@
 -- What the functions read that read expressions, places and calls. The limit of a function is how many nodes may
 -- stand below one another in what it reads.
-use Rattle.std.specs.Prelude.{ℕ, zero, suc, ◌+◌, nat_le, ◌==◌, not, ◌&&◌, ◌||◌, if◌then◌else◌, List, [], ◌∷◌, ◌++◌, length, Option, Some, None, Ok}
+use Rattle.std.specs.Prelude.{ℕ, zero, suc, ◌+◌, nat_le, ◌==◌, not, ◌&&◌, ◌||◌, if◌then◌else◌, List, [], length, Option, Some, None, Ok}
 use Rattle.sat_base.specs.declared.name.At.{At}
 use Rattle.sat_base.specs.declared.name.Named.{Named}
 use Rattle.c_tree.specs.declared.call.Arg.{Arg}

@@ -1,8 +1,5 @@
 -- The marks of assignments and steps, and what may follow these.
 use Rattle.std.proofs.Common.{◌≡◌, Bool, true, false, [], Some, None, refl, ap, subst}
-use Rattle.std.specs.Prelude.{pos}
-use Rattle.c_tree.specs.declared.expression.Expr.{Expr}
-use Rattle.c_tree.specs.declared.expression.ExprKind.TheVariants as kind
 use Rattle.c_tree.specs.declared.place.Place.{Place}
 use Rattle.c_tree.specs.declared.place.Place.TheVariants as place
 use Rattle.c_tree.specs.declared.simple.AssignMark.{AssignMark}
@@ -15,7 +12,7 @@ use Rattle.c_grammar.specs.Marks.{assign_symbol, step_symbol}
 use Rattle.c_grammar.specs.Symbols.{same_symbol, assign_mark, step_of}
 use Rattle.right_reading.proofs.Ahead.Begins.{begins_place, begins_name}
 use Rattle.c_grammar.proofs.SymbolNumbers.{same-is}
-use Rattle.right_reading.proofs.OneToken.Tokens.{nowhere, no_name}
+use Rattle.right_reading.proofs.OneToken.Tokens.{no_name}
 use Rattle.right_reading.specs.Stops.{ends_place, ends_expression}
 use Rattle.c_grammar.proofs.SymbolSets.{among, apart}
 
