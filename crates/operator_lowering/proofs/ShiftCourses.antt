@@ -256,61 +256,61 @@ count_fits n fits = let small = fits.sfits in omega arith
 -- ---- the six shifts
 
 pub shl : (form : Form) (guard : Guard) → IsCourse (Call op.Shl) form guard
-shl Plain guard site a (pos n) c flag input small asked = shl_plain_pos (short a input asked.fit.0) flag n (asked.unclipped refl)
-shl Plain guard site a (negsuc m) c flag input small asked = shl_plain_neg (short a input asked.fit.0) flag m (small_count m asked.fit.1.0)
-shl Clamp guard site a (pos n) c flag input small asked = shl_pos (short a input asked.fit.0) flag n _ _ (silent _ flag)
-shl Clamp guard site a (negsuc m) c flag input small asked = shl_neg (short a input asked.fit.0) flag m flag (small_count m asked.fit.1.0)
-shl Flag guard site a (pos n) c flag input small asked = shl_pos (short a input asked.fit.0) flag n _ _ (flagged _ flag)
-shl Flag guard site a (negsuc m) c flag input small asked = shl_neg (short a input asked.fit.0) flag m (added (pos 0) (pos 1)) (small_count m asked.fit.1.0)
+shl Plain guard in_place site a (pos n) c flag input small asked = shl_plain_pos (short a input asked.fit.0) flag n (asked.unclipped refl)
+shl Plain guard in_place site a (negsuc m) c flag input small asked = shl_plain_neg (short a input asked.fit.0) flag m (small_count m asked.fit.1.0)
+shl Clamp guard in_place site a (pos n) c flag input small asked = shl_pos (short a input asked.fit.0) flag n _ _ (silent _ flag)
+shl Clamp guard in_place site a (negsuc m) c flag input small asked = shl_neg (short a input asked.fit.0) flag m flag (small_count m asked.fit.1.0)
+shl Flag guard in_place site a (pos n) c flag input small asked = shl_pos (short a input asked.fit.0) flag n _ _ (flagged _ flag)
+shl Flag guard in_place site a (negsuc m) c flag input small asked = shl_neg (short a input asked.fit.0) flag m (added (pos 0) (pos 1)) (small_count m asked.fit.1.0)
 
 pub shr : (form : Form) (guard : Guard) → IsCourse (Call op.Shr) form guard
-shr Plain guard site a (pos zero) c flag input small asked = shr_plain_zero (short a input asked.fit.0) flag
-shr Plain guard site a (pos (suc n)) c flag input small asked = shr_plain_next (short a input asked.fit.0) flag n
-shr Plain guard site a (negsuc m) c flag input small asked = shr_plain_neg (short a input asked.fit.0) flag m (small_count m asked.fit.1.0) (asked.unclipped refl)
-shr Clamp guard site a (pos zero) c flag input small asked = shr_zero (short a input asked.fit.0) flag flag flag (silent _ flag)
-shr Clamp guard site a (pos (suc n)) c flag input small asked = shr_next (short a input asked.fit.0) flag n flag
-shr Clamp guard site a (negsuc m) c flag input small asked = shr_neg (short a input asked.fit.0) flag m flag flag (small_count m asked.fit.1.0) (silent _ flag)
-shr Flag guard site a (pos zero) c flag input small asked = shr_zero (short a input asked.fit.0) flag (added (pos 0) (pos 1)) _ (flagged _ flag)
-shr Flag guard site a (pos (suc n)) c flag input small asked = shr_next (short a input asked.fit.0) flag n (added (pos 0) (pos 1))
-shr Flag guard site a (negsuc m) c flag input small asked = shr_neg (short a input asked.fit.0) flag m (added (pos 0) (pos 1)) _ (small_count m asked.fit.1.0) (flagged _ flag)
+shr Plain guard in_place site a (pos zero) c flag input small asked = shr_plain_zero (short a input asked.fit.0) flag
+shr Plain guard in_place site a (pos (suc n)) c flag input small asked = shr_plain_next (short a input asked.fit.0) flag n
+shr Plain guard in_place site a (negsuc m) c flag input small asked = shr_plain_neg (short a input asked.fit.0) flag m (small_count m asked.fit.1.0) (asked.unclipped refl)
+shr Clamp guard in_place site a (pos zero) c flag input small asked = shr_zero (short a input asked.fit.0) flag flag flag (silent _ flag)
+shr Clamp guard in_place site a (pos (suc n)) c flag input small asked = shr_next (short a input asked.fit.0) flag n flag
+shr Clamp guard in_place site a (negsuc m) c flag input small asked = shr_neg (short a input asked.fit.0) flag m flag flag (small_count m asked.fit.1.0) (silent _ flag)
+shr Flag guard in_place site a (pos zero) c flag input small asked = shr_zero (short a input asked.fit.0) flag (added (pos 0) (pos 1)) _ (flagged _ flag)
+shr Flag guard in_place site a (pos (suc n)) c flag input small asked = shr_next (short a input asked.fit.0) flag n (added (pos 0) (pos 1))
+shr Flag guard in_place site a (negsuc m) c flag input small asked = shr_neg (short a input asked.fit.0) flag m (added (pos 0) (pos 1)) _ (small_count m asked.fit.1.0) (flagged _ flag)
 
 pub shr_r : (form : Form) (guard : Guard) → IsCourse (Call op.ShrR) form guard
-shr_r Plain guard site a (pos zero) c flag input small asked = shr_r_plain_zero (short a input asked.fit.0) flag halved16 (halves16 a asked.fit.0) (asked.unclipped refl)
-shr_r Plain guard site a (pos (suc n)) c flag input small asked = shr_r_plain_next (short a input asked.fit.0) flag halved16 (halves16 a asked.fit.0) n (count_fits n asked.fit.1.0)
-shr_r Plain guard site a (negsuc m) c flag input small asked = shr_r_plain_neg (short a input asked.fit.0) flag halved16 (halves16 a asked.fit.0) m (small_count m asked.fit.1.0) (asked.unclipped refl)
-shr_r Clamp guard site a (pos zero) c flag input small asked = shr_r_zero (short a input asked.fit.0) flag halved16 (halves16 a asked.fit.0) flag flag (silent _ flag)
-shr_r Clamp guard site a (pos (suc n)) c flag input small asked = shr_r_next (short a input asked.fit.0) flag halved16 (halves16 a asked.fit.0) n flag (count_fits n asked.fit.1.0)
-shr_r Clamp guard site a (negsuc m) c flag input small asked = shr_r_neg (short a input asked.fit.0) flag halved16 (halves16 a asked.fit.0) m flag flag (small_count m asked.fit.1.0) (silent _ flag)
-shr_r Flag guard site a (pos zero) c flag input small asked = shr_r_zero (short a input asked.fit.0) flag halved16 (halves16 a asked.fit.0) (added (pos 0) (pos 1)) _ (flagged _ flag)
-shr_r Flag guard site a (pos (suc n)) c flag input small asked = shr_r_next (short a input asked.fit.0) flag halved16 (halves16 a asked.fit.0) n (added (pos 0) (pos 1)) (count_fits n asked.fit.1.0)
-shr_r Flag guard site a (negsuc m) c flag input small asked = shr_r_neg (short a input asked.fit.0) flag halved16 (halves16 a asked.fit.0) m (added (pos 0) (pos 1)) _ (small_count m asked.fit.1.0) (flagged _ flag)
+shr_r Plain guard in_place site a (pos zero) c flag input small asked = shr_r_plain_zero (short a input asked.fit.0) flag halved16 (halves16 a asked.fit.0) (asked.unclipped refl)
+shr_r Plain guard in_place site a (pos (suc n)) c flag input small asked = shr_r_plain_next (short a input asked.fit.0) flag halved16 (halves16 a asked.fit.0) n (count_fits n asked.fit.1.0)
+shr_r Plain guard in_place site a (negsuc m) c flag input small asked = shr_r_plain_neg (short a input asked.fit.0) flag halved16 (halves16 a asked.fit.0) m (small_count m asked.fit.1.0) (asked.unclipped refl)
+shr_r Clamp guard in_place site a (pos zero) c flag input small asked = shr_r_zero (short a input asked.fit.0) flag halved16 (halves16 a asked.fit.0) flag flag (silent _ flag)
+shr_r Clamp guard in_place site a (pos (suc n)) c flag input small asked = shr_r_next (short a input asked.fit.0) flag halved16 (halves16 a asked.fit.0) n flag (count_fits n asked.fit.1.0)
+shr_r Clamp guard in_place site a (negsuc m) c flag input small asked = shr_r_neg (short a input asked.fit.0) flag halved16 (halves16 a asked.fit.0) m flag flag (small_count m asked.fit.1.0) (silent _ flag)
+shr_r Flag guard in_place site a (pos zero) c flag input small asked = shr_r_zero (short a input asked.fit.0) flag halved16 (halves16 a asked.fit.0) (added (pos 0) (pos 1)) _ (flagged _ flag)
+shr_r Flag guard in_place site a (pos (suc n)) c flag input small asked = shr_r_next (short a input asked.fit.0) flag halved16 (halves16 a asked.fit.0) n (added (pos 0) (pos 1)) (count_fits n asked.fit.1.0)
+shr_r Flag guard in_place site a (negsuc m) c flag input small asked = shr_r_neg (short a input asked.fit.0) flag halved16 (halves16 a asked.fit.0) m (added (pos 0) (pos 1)) _ (small_count m asked.fit.1.0) (flagged _ flag)
 
 pub l_shl : (form : Form) (guard : Guard) → IsCourse (Call op.LShl) form guard
-l_shl Plain guard site a (pos n) c flag input small asked = shl_plain_pos (own a input asked.fit.0) flag n (asked.unclipped refl)
-l_shl Plain guard site a (negsuc m) c flag input small asked = shl_plain_neg (own a input asked.fit.0) flag m (small_count m asked.fit.1.0)
-l_shl Clamp guard site a (pos n) c flag input small asked = shl_pos (own a input asked.fit.0) flag n _ _ (silent _ flag)
-l_shl Clamp guard site a (negsuc m) c flag input small asked = shl_neg (own a input asked.fit.0) flag m flag (small_count m asked.fit.1.0)
-l_shl Flag guard site a (pos n) c flag input small asked = shl_pos (own a input asked.fit.0) flag n _ _ (flagged _ flag)
-l_shl Flag guard site a (negsuc m) c flag input small asked = shl_neg (own a input asked.fit.0) flag m (added (pos 0) (pos 1)) (small_count m asked.fit.1.0)
+l_shl Plain guard in_place site a (pos n) c flag input small asked = shl_plain_pos (own a input asked.fit.0) flag n (asked.unclipped refl)
+l_shl Plain guard in_place site a (negsuc m) c flag input small asked = shl_plain_neg (own a input asked.fit.0) flag m (small_count m asked.fit.1.0)
+l_shl Clamp guard in_place site a (pos n) c flag input small asked = shl_pos (own a input asked.fit.0) flag n _ _ (silent _ flag)
+l_shl Clamp guard in_place site a (negsuc m) c flag input small asked = shl_neg (own a input asked.fit.0) flag m flag (small_count m asked.fit.1.0)
+l_shl Flag guard in_place site a (pos n) c flag input small asked = shl_pos (own a input asked.fit.0) flag n _ _ (flagged _ flag)
+l_shl Flag guard in_place site a (negsuc m) c flag input small asked = shl_neg (own a input asked.fit.0) flag m (added (pos 0) (pos 1)) (small_count m asked.fit.1.0)
 
 pub l_shr : (form : Form) (guard : Guard) → IsCourse (Call op.LShr) form guard
-l_shr Plain guard site a (pos zero) c flag input small asked = shr_plain_zero (copied a input asked.fit.0) flag
-l_shr Plain guard site a (pos (suc n)) c flag input small asked = shr_plain_next (copied a input asked.fit.0) flag n
-l_shr Plain guard site a (negsuc m) c flag input small asked = shr_plain_neg (copied a input asked.fit.0) flag m (small_count m asked.fit.1.0) (asked.unclipped refl)
-l_shr Clamp guard site a (pos zero) c flag input small asked = shr_zero (copied a input asked.fit.0) flag flag flag (silent _ flag)
-l_shr Clamp guard site a (pos (suc n)) c flag input small asked = shr_next (copied a input asked.fit.0) flag n flag
-l_shr Clamp guard site a (negsuc m) c flag input small asked = shr_neg (copied a input asked.fit.0) flag m flag flag (small_count m asked.fit.1.0) (silent _ flag)
-l_shr Flag guard site a (pos zero) c flag input small asked = shr_zero (copied a input asked.fit.0) flag (added (pos 0) (pos 1)) _ (flagged _ flag)
-l_shr Flag guard site a (pos (suc n)) c flag input small asked = shr_next (copied a input asked.fit.0) flag n (added (pos 0) (pos 1))
-l_shr Flag guard site a (negsuc m) c flag input small asked = shr_neg (copied a input asked.fit.0) flag m (added (pos 0) (pos 1)) _ (small_count m asked.fit.1.0) (flagged _ flag)
+l_shr Plain guard in_place site a (pos zero) c flag input small asked = shr_plain_zero (copied a input asked.fit.0) flag
+l_shr Plain guard in_place site a (pos (suc n)) c flag input small asked = shr_plain_next (copied a input asked.fit.0) flag n
+l_shr Plain guard in_place site a (negsuc m) c flag input small asked = shr_plain_neg (copied a input asked.fit.0) flag m (small_count m asked.fit.1.0) (asked.unclipped refl)
+l_shr Clamp guard in_place site a (pos zero) c flag input small asked = shr_zero (copied a input asked.fit.0) flag flag flag (silent _ flag)
+l_shr Clamp guard in_place site a (pos (suc n)) c flag input small asked = shr_next (copied a input asked.fit.0) flag n flag
+l_shr Clamp guard in_place site a (negsuc m) c flag input small asked = shr_neg (copied a input asked.fit.0) flag m flag flag (small_count m asked.fit.1.0) (silent _ flag)
+l_shr Flag guard in_place site a (pos zero) c flag input small asked = shr_zero (copied a input asked.fit.0) flag (added (pos 0) (pos 1)) _ (flagged _ flag)
+l_shr Flag guard in_place site a (pos (suc n)) c flag input small asked = shr_next (copied a input asked.fit.0) flag n (added (pos 0) (pos 1))
+l_shr Flag guard in_place site a (negsuc m) c flag input small asked = shr_neg (copied a input asked.fit.0) flag m (added (pos 0) (pos 1)) _ (small_count m asked.fit.1.0) (flagged _ flag)
 
 pub l_shr_r : (form : Form) (guard : Guard) → IsCourse (Call op.LShrR) form guard
-l_shr_r Plain guard site a (pos zero) c flag input small asked = shr_r_plain_zero (copied a input asked.fit.0) flag halved32 (halves32 a asked.fit.0) (asked.unclipped refl)
-l_shr_r Plain guard site a (pos (suc n)) c flag input small asked = shr_r_plain_next (copied a input asked.fit.0) flag halved32 (halves32 a asked.fit.0) n (count_fits n asked.fit.1.0)
-l_shr_r Plain guard site a (negsuc m) c flag input small asked = shr_r_plain_neg (copied a input asked.fit.0) flag halved32 (halves32 a asked.fit.0) m (small_count m asked.fit.1.0) (asked.unclipped refl)
-l_shr_r Clamp guard site a (pos zero) c flag input small asked = shr_r_zero (copied a input asked.fit.0) flag halved32 (halves32 a asked.fit.0) flag flag (silent _ flag)
-l_shr_r Clamp guard site a (pos (suc n)) c flag input small asked = shr_r_next (copied a input asked.fit.0) flag halved32 (halves32 a asked.fit.0) n flag (count_fits n asked.fit.1.0)
-l_shr_r Clamp guard site a (negsuc m) c flag input small asked = shr_r_neg (copied a input asked.fit.0) flag halved32 (halves32 a asked.fit.0) m flag flag (small_count m asked.fit.1.0) (silent _ flag)
-l_shr_r Flag guard site a (pos zero) c flag input small asked = shr_r_zero (copied a input asked.fit.0) flag halved32 (halves32 a asked.fit.0) (added (pos 0) (pos 1)) _ (flagged _ flag)
-l_shr_r Flag guard site a (pos (suc n)) c flag input small asked = shr_r_next (copied a input asked.fit.0) flag halved32 (halves32 a asked.fit.0) n (added (pos 0) (pos 1)) (count_fits n asked.fit.1.0)
-l_shr_r Flag guard site a (negsuc m) c flag input small asked = shr_r_neg (copied a input asked.fit.0) flag halved32 (halves32 a asked.fit.0) m (added (pos 0) (pos 1)) _ (small_count m asked.fit.1.0) (flagged _ flag)
+l_shr_r Plain guard in_place site a (pos zero) c flag input small asked = shr_r_plain_zero (copied a input asked.fit.0) flag halved32 (halves32 a asked.fit.0) (asked.unclipped refl)
+l_shr_r Plain guard in_place site a (pos (suc n)) c flag input small asked = shr_r_plain_next (copied a input asked.fit.0) flag halved32 (halves32 a asked.fit.0) n (count_fits n asked.fit.1.0)
+l_shr_r Plain guard in_place site a (negsuc m) c flag input small asked = shr_r_plain_neg (copied a input asked.fit.0) flag halved32 (halves32 a asked.fit.0) m (small_count m asked.fit.1.0) (asked.unclipped refl)
+l_shr_r Clamp guard in_place site a (pos zero) c flag input small asked = shr_r_zero (copied a input asked.fit.0) flag halved32 (halves32 a asked.fit.0) flag flag (silent _ flag)
+l_shr_r Clamp guard in_place site a (pos (suc n)) c flag input small asked = shr_r_next (copied a input asked.fit.0) flag halved32 (halves32 a asked.fit.0) n flag (count_fits n asked.fit.1.0)
+l_shr_r Clamp guard in_place site a (negsuc m) c flag input small asked = shr_r_neg (copied a input asked.fit.0) flag halved32 (halves32 a asked.fit.0) m flag flag (small_count m asked.fit.1.0) (silent _ flag)
+l_shr_r Flag guard in_place site a (pos zero) c flag input small asked = shr_r_zero (copied a input asked.fit.0) flag halved32 (halves32 a asked.fit.0) (added (pos 0) (pos 1)) _ (flagged _ flag)
+l_shr_r Flag guard in_place site a (pos (suc n)) c flag input small asked = shr_r_next (copied a input asked.fit.0) flag halved32 (halves32 a asked.fit.0) n (added (pos 0) (pos 1)) (count_fits n asked.fit.1.0)
+l_shr_r Flag guard in_place site a (negsuc m) c flag input small asked = shr_r_neg (copied a input asked.fit.0) flag halved32 (halves32 a asked.fit.0) m (added (pos 0) (pos 1)) _ (small_count m asked.fit.1.0) (flagged _ flag)

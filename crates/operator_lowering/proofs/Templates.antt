@@ -24,7 +24,7 @@ use Rattle.operator_lowering.specs.Sites.{site_value, led_to, site_final}
 use Rattle.operator_lowering.specs.Template.{ArePlaces, IsAfter, DoesSite, TemplateHolds, makes_calls}
 use Rattle.operator_lowering.specs.declared.way.Way.{Way}
 use Rattle.operator_lowering.specs.declared.way.Way.TheVariants.{Straight, Moves, KeepsFirst, KeepsThird, KeepsBoth, Turns}
-use Rattle.operator_lowering.specs.Words.{front, places, copy, turns, way_of, site_words, template_words}
+use Rattle.operator_lowering.specs.Words.{front, places, copy, turns, way_of, is_in_place, site_words, template_words}
 use Rattle.operator_lowering.proofs.Begins.{begins}
 use Rattle.operator_lowering.proofs.Ready.{ready}
 use Rattle.operator_lowering.proofs.Sound.{sound}
@@ -131,7 +131,7 @@ module _ (k : SiteKind) (form : Form) (guard : Guard) (site : ℕ) (regs : Regis
   way = way_of k form guard
 
   abbrev words : List Instr
-  words = site_words k form guard site
+  words = site_words k form guard (is_in_place (places way regs)) site
 
   does : DoesSite k form guard site regs (template_words k form guard site regs)
   does code place s stands before asked =
@@ -139,8 +139,8 @@ module _ (k : SiteKind) (form : Form) (guard : Guard) (site : ℕ) (regs : Regis
       let b = register s regs.second in
       let c = register s regs.third in
       let flag = register s 27 in
-      let lead = ready k form guard allowed site a b c flag s.input small asked in
-      let run = begins regs (makes_calls k) words code place s (site_final k form site a b c flag s.input) own (sound k form guard site).short before way lead.0 lead.1 stands in
+      let lead = ready k form guard allowed (is_in_place (places way regs)) site a b c flag s.input small asked in
+      let run = begins regs (is_in_place (places way regs)) (makes_calls k) words code place s (site_final k form site a b c flag s.input) own (sound k form guard (is_in_place (places way regs)) site).short before way refl lead.0 lead.1 stands in
       (run.0, run.1, finished (place + length (template_words k form guard site regs)) s (moment_after code run.0 (Running s)) (site_value k a b c s.input) run.2)
     where
       finished : (end : ℕ) (s : MachineState) (at : Moment) (o : Option ℤ)
@@ -154,10 +154,10 @@ module _ (k : SiteKind) (form : Form) (guard : Guard) (site : ℕ) (regs : Regis
     does = does;
     fit = All-append Fits (front way regs) (all_over (places way regs) words)
         (front_all Fits regs (copy_fits regs.result regs.first (place_fits _ own.result) (place_fits _ own.first)) (copy_fits 28 regs.first (omega arith) (place_fits _ own.first)) (copy_fits 28 regs.third (omega arith) (place_fits _ own.third)) (copy_fits 28 regs.result (omega arith) (place_fits _ own.result)) way)
-        (all_fit (places way regs) (open_range regs own way) words (sound k form guard site).fit);
-    short = few (front way regs) (all_over (places way regs) words) (front_short regs way) (length-map words (over (places way regs))) (sound k form guard site).short;
+        (all_fit (places way regs) (open_range regs own way) words (sound k form guard (is_in_place (places way regs)) site).fit);
+    short = few (front way regs) (all_over (places way regs) words) (front_short regs way) (length-map words (over (places way regs))) (sound k form guard (is_in_place (places way regs)) site).short;
     plain = λ e g m. All-append (λ i. is_comparing i ≡ false) (front way regs) (all_over (places way regs) words) (front_all (λ i. is_comparing i ≡ false) regs refl refl refl refl way)
-        (plain_stay (places way regs) words ((sound k form guard site).plain e g m));
+        (plain_stay (places way regs) words ((sound k form guard (is_in_place (places way regs)) site).plain e g m));
   }
     where
       few : (xs ys : List Instr) → length xs ≤ 1 → length ys ≡ length words → length words ≤ 90 → length (xs ++ ys) ≤ 96

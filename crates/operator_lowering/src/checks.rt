@@ -1,7 +1,7 @@
 // The checks of sites that can stop, as instructions of a template. Where nothing stops they jump over the words of the
 // stop, whose size in bytes is passed, and where the site stops to those words.
 
-ghost use Rattle.std.specs.Prelude.{◌≡◌, ◌<◌};
+ghost use Rattle.std.specs.Prelude.{◌≡◌, ◌<◌, true, false};
 ghost use Rattle.operator_lowering.specs.Words.{is_small, stop_size, sum_check, difference_check, product_check, opposite_check, quotient_check, view_check, edge_check, sample_check, sample_words};
 
 use crate::assembly::words;
@@ -27,6 +27,19 @@ pub(crate) fn stop_size(site: u32) -> u8
 macro_rules! exact {
     ($name:ident, $high:ident, $low:ident, $size:ident) => {
         words![
+            $name RESULT, FIRST, SECOND;
+            blt SECOND, ZERO, 12;
+            bge $high, $low, $size + 12;
+            jal ZERO, 8;
+            blt $high, $low, $size + 4;
+        ]
+    };
+}
+
+// The same where the result has the register of the second operand.
+macro_rules! exact_in_place {
+    ($name:ident, $high:ident, $low:ident, $size:ident) => {
+        words![
             blt SECOND, ZERO, 16;
             $name RESULT, FIRST, SECOND;
             bge $high, $low, $size + 16;
@@ -38,19 +51,35 @@ macro_rules! exact {
 }
 
 /// The sum lies in 32 bits.
-pub(crate) fn sum_check(size: u8) -> [Instr; 6]
-    ensures { result ≡ sum_check size }
+pub(crate) fn sum_check(size: u8) -> [Instr; 5]
+    ensures { result ≡ sum_check false size }
 {
     let size = i32::from(size);
     exact!(add, RESULT, FIRST, size)
 }
 
+/// The same where the result has the register of the second operand.
+pub(crate) fn sum_check_in_place(size: u8) -> [Instr; 6]
+    ensures { result ≡ sum_check true size }
+{
+    let size = i32::from(size);
+    exact_in_place!(add, RESULT, FIRST, size)
+}
+
 /// The difference lies in 32 bits.
-pub(crate) fn difference_check(size: u8) -> [Instr; 6]
-    ensures { result ≡ difference_check size }
+pub(crate) fn difference_check(size: u8) -> [Instr; 5]
+    ensures { result ≡ difference_check false size }
 {
     let size = i32::from(size);
     exact!(sub, FIRST, RESULT, size)
+}
+
+/// The same where the result has the register of the second operand.
+pub(crate) fn difference_check_in_place(size: u8) -> [Instr; 6]
+    ensures { result ≡ difference_check true size }
+{
+    let size = i32::from(size);
+    exact_in_place!(sub, FIRST, RESULT, size)
 }
 
 /// The upper half of the product is the sign of the lower one.

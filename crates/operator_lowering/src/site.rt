@@ -6,12 +6,13 @@ ghost use Rattle.template_runs.specs.Fitting.{are_fit};
 ghost use Rattle.template_runs.specs.Renaming.{AreInRange, all_over};
 ghost use Rattle.operator_meaning.specs.declared.site.Guard.TheVariants.{Kept, Gone};
 ghost use Rattle.operator_lowering.specs.Template.{ArePlaces};
-ghost use Rattle.operator_lowering.specs.Words.{is_small, constant_words, stop_words, stop_size, checked, checked_by, bound_of, bound_check, operator_words, site_words, front, copy};
+ghost use Rattle.operator_lowering.specs.Words.{is_small, constant_words, stop_words, stop_size, checked, checked_by, bound_of, bound_check, operator_words, site_words, is_in_place, front, copy};
 
 use crate::assembly::words;
 use crate::checks::{
-    difference_check, edge_check, is_small, opposite_check, product_check, quotient_check,
-    sample_check, sample_words, stop_size, sum_check, view_check,
+    difference_check, difference_check_in_place, edge_check, is_small, opposite_check,
+    product_check, quotient_check, sample_check, sample_words, stop_size, sum_check,
+    sum_check_in_place, view_check,
 };
 use crate::operators::operator_words;
 use crate::tables::halves::NEGATE_PLAIN;
@@ -78,9 +79,9 @@ impl Words {
     fn put_operator(&mut self, regs: Registers, op: Op, form: Form)
         requires room { length self.old ≤ 1 }
         requires range { AreInRange regs }
-        ensures { self.new ≡ self.old ++ map encoded (all_over regs (operator_words op form)) }
+        ensures { self.new ≡ self.old ++ map encoded (all_over regs (operator_words op form (is_in_place regs))) }
     {
-        let (first, rest) = operator_words(op, form);
+        let (first, rest) = operator_words(op, form, regs.result == regs.second);
         self.put(regs, first);
         self.put(regs, rest);
     }
@@ -89,16 +90,21 @@ impl Words {
     fn put_kept(&mut self, regs: Registers, kind: SiteKind, form: Form, site: u32)
         requires room { length self.old ≤ 1 }
         requires range { AreInRange regs }
-        ensures { self.new ≡ self.old ++ map encoded (all_over regs (site_words kind form Kept site)) }
+        ensures { self.new ≡ self.old ++ map encoded (all_over regs (site_words kind form Kept (is_in_place regs) site)) }
     {
         let size = stop_size(site);
+        let in_place = regs.result == regs.second;
         match kind {
             SiteKind::Call(Op::DivS) => {
                 self.put_checked(regs, &quotient_check(size), site);
                 self.put(regs, &DIVIDE);
             }
             SiteKind::Call(op) => self.put_operator(regs, op, form),
+            SiteKind::Sum if in_place => self.put_checked(regs, &sum_check_in_place(size), site),
             SiteKind::Sum => self.put_checked(regs, &sum_check(size), site),
+            SiteKind::Difference if in_place => {
+                self.put_checked(regs, &difference_check_in_place(size), site)
+            }
             SiteKind::Difference => self.put_checked(regs, &difference_check(size), site),
             SiteKind::Product => self.put_checked(regs, &product_check(size), site),
             SiteKind::Opposite => {
@@ -119,7 +125,7 @@ impl Words {
     fn put_gone(&mut self, regs: Registers, kind: SiteKind, form: Form)
         requires room { length self.old ≤ 1 }
         requires range { AreInRange regs }
-        ensures { self.new ≡ self.old ++ map encoded (all_over regs (site_words kind form Gone 0)) }
+        ensures { self.new ≡ self.old ++ map encoded (all_over regs (site_words kind form Gone (is_in_place regs) 0)) }
     {
         match kind {
             SiteKind::Call(op) => self.put_operator(regs, op, form),
@@ -142,7 +148,7 @@ impl Words {
     )
         requires room { length self.old ≤ 1 }
         requires range { AreInRange regs }
-        ensures { self.new ≡ self.old ++ map encoded (all_over regs (site_words kind formed.0 formed.1 site)) }
+        ensures { self.new ≡ self.old ++ map encoded (all_over regs (site_words kind formed.0 formed.1 (is_in_place regs) site)) }
     {
         let (form, guard) = formed;
         match guard {

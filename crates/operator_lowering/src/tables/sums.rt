@@ -12,9 +12,34 @@ pub(crate) static SUM: [Instr; 1] = words![add RESULT, FIRST, SECOND];
 pub(crate) static DIFFERENCE: [Instr; 1] = words![sub RESULT, FIRST, SECOND];
 
 // A sum or a difference, clipped to 32 bits. It is exact where the second operand is not negative and the high one of the
-// two named is not less than the low one, and where it is negative and the high one is less. The second operand is read
-// before the result is written, the first one after.
+// two named is not less than the low one, and where it is negative and the high one is less. Both operands are read after
+// the result is written.
 macro_rules! clipped {
+    ($name:ident, $high:ident, $low:ident, $size:literal; $($flag:tt)*) => {
+        words![
+            $name RESULT, FIRST, SECOND;
+            blt SECOND, ZERO, 12;
+            bge $high, $low, 24 + $size;
+            jal ZERO, 8;
+            blt $high, $low, 16 + $size;
+            srai T0, RESULT, 31;
+            lui RESULT, 0x80000;
+            xor RESULT, RESULT, T0;
+            $($flag)*
+        ]
+    };
+}
+
+pub(crate) static L_ADD_CLAMP: [Instr; 8] = clipped!(add, RESULT, FIRST, 0;);
+
+pub(crate) static L_ADD_FLAG: [Instr; 9] = clipped!(add, RESULT, FIRST, 4; addi OVERFLOW, ZERO, 1;);
+
+pub(crate) static L_SUB_CLAMP: [Instr; 8] = clipped!(sub, FIRST, RESULT, 0;);
+
+pub(crate) static L_SUB_FLAG: [Instr; 9] = clipped!(sub, FIRST, RESULT, 4; addi OVERFLOW, ZERO, 1;);
+
+// The same where the result has the register of the second operand, which is read before.
+macro_rules! clipped_in_place {
     ($name:ident, $high:ident, $low:ident, $size:literal; $($flag:tt)*) => {
         words![
             blt SECOND, ZERO, 16;
@@ -31,15 +56,15 @@ macro_rules! clipped {
     };
 }
 
-pub(crate) static L_ADD_CLAMP: [Instr; 9] = clipped!(add, RESULT, FIRST, 0;);
+pub(crate) static L_ADD_IN_PLACE_CLAMP: [Instr; 9] = clipped_in_place!(add, RESULT, FIRST, 0;);
 
-pub(crate) static L_ADD_FLAG: [Instr; 10] =
-    clipped!(add, RESULT, FIRST, 4; addi OVERFLOW, ZERO, 1;);
+pub(crate) static L_ADD_IN_PLACE_FLAG: [Instr; 10] =
+    clipped_in_place!(add, RESULT, FIRST, 4; addi OVERFLOW, ZERO, 1;);
 
-pub(crate) static L_SUB_CLAMP: [Instr; 9] = clipped!(sub, FIRST, RESULT, 0;);
+pub(crate) static L_SUB_IN_PLACE_CLAMP: [Instr; 9] = clipped_in_place!(sub, FIRST, RESULT, 0;);
 
-pub(crate) static L_SUB_FLAG: [Instr; 10] =
-    clipped!(sub, FIRST, RESULT, 4; addi OVERFLOW, ZERO, 1;);
+pub(crate) static L_SUB_IN_PLACE_FLAG: [Instr; 10] =
+    clipped_in_place!(sub, FIRST, RESULT, 4; addi OVERFLOW, ZERO, 1;);
 
 // The upper half of the operand and 2^15.
 pub(crate) static ROUND_PLAIN: [Instr; 3] = words![
