@@ -6,6 +6,3 @@ mod place;
 pub mod scopes;
 
 pub use scopes::{Declared, Scopes};
-
-#[cfg(test)]
-mod tests;

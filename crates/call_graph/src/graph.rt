@@ -40,12 +40,19 @@ impl CallGraph {
         self.rows.len()
     }
 
+    /// One function more, which calls these.
+    pub fn push(&mut self, callees: Items<usize>) -> Result<(), Memory>
+        ensures { OnOk result (self.new ≡ self.old ++ callees ∷ []) }
+    {
+        self.rows.push(callees)?;
+        Ok(())
+    }
+
     /// One function more, which calls none so far.
     pub fn add(&mut self, alloc: Global) -> Result<(), Memory>
         ensures { OnOk result (self.new ≡ self.old ++ [] ∷ []) }
     {
-        self.rows.push(Items::new(alloc))?;
-        Ok(())
+        self.push(Items::new(alloc))
     }
 
     /// One call more.

@@ -7,6 +7,3 @@ mod returning;
 
 pub use folding::folded;
 pub use returning::surely_returns;
-
-#[cfg(test)]
-mod tests;

@@ -24,9 +24,9 @@ use Rattle.operator_lowering.proofs.Trees.{by_test, by_turned, ends_same, ends_k
 -- ---- sums
 
 pub l_mac : (form : Form) (guard : Guard) → IsCourse (Call op.LMac) form guard
-l_mac Plain guard site a b c flag input small asked =
+l_mac Plain guard in_place site a b c flag input small asked =
     ends_same (Accumulations.plain_keeps a b c asked.fit.0 asked.fit.1.0 asked.fit.1.1.0 (asked.unclipped refl)).0
-l_mac Clamp guard site a b c flag input small asked =
+l_mac Clamp guard in_place site a b c flag input small asked =
     let fx = asked.fit.0 in
     let fa = asked.fit.1.0 in
     let fb = asked.fit.1.1.0 in
@@ -36,7 +36,7 @@ l_mac Clamp guard site a b c flag input small asked =
     (λ p. by_test (less (added a two) a) (λ f. ends_same (Accumulations.down_keeps a b c fx fa fb e p f).0) (λ f. ends_same (Accumulations.down_changes a b c fx fa fb e p f).0))
     (λ p. by_turned (less (pos 0) a) (λ f. ends_same (Accumulations.corner_high a b c fx fa fb e p f).0) (λ f. ends_same (Accumulations.corner_low a b c fx fa fb e p f).0)))
     (λ e. by_turned (less (added a two) a) (λ f. ends_same (Accumulations.up_changes a b c fx fa fb e f).0) (λ f. ends_same (Accumulations.up_keeps a b c fx fa fb e f).0))
-l_mac Flag guard site a b c flag input small asked =
+l_mac Flag guard in_place site a b c flag input small asked =
     let fx = asked.fit.0 in
     let fa = asked.fit.1.0 in
     let fb = asked.fit.1.1.0 in
@@ -70,10 +70,10 @@ module _ (a b c : ℤ) (fx : FitsSigned w32 a) (fa : FitsSigned w16 b) (fb : Fit
       ∙ ap (λ m. Ends (rounded (accumulated a b c)) (if m || rounding_clips (accumulated a b c) then pos 1 else flag) input) (sym some)
 
 pub mac_r : (form : Form) (guard : Guard) → IsCourse (Call op.MacR) form guard
-mac_r Plain guard site a b c flag input small asked =
+mac_r Plain guard in_place site a b c flag input small asked =
     let k = Accumulations.plain_keeps a b c asked.fit.0 asked.fit.1.0 asked.fit.1.1.0 (no_first _ _ (asked.unclipped refl)) in
     ends_same (ap (λ v. to_right_signed (added v (upper 8)) 16) k.0 ∙ plain_rounding (accumulated a b c) (clip_fits (a +ℤ clip32 (product_of b c))) (no_second _ _ (asked.unclipped refl)))
-mac_r Clamp guard site a b c flag input small asked =
+mac_r Clamp guard in_place site a b c flag input small asked =
     let fx = asked.fit.0 in
     let fa = asked.fit.1.0 in
     let fb = asked.fit.1.1.0 in
@@ -83,7 +83,7 @@ mac_r Clamp guard site a b c flag input small asked =
     (λ p. by_test (less (added a two) a) (λ f. mac_r_clamp a b c fx fa fb flag input (Accumulations.down_keeps a b c fx fa fb e p f).0) (λ f. mac_r_clamp a b c fx fa fb flag input (Accumulations.down_changes a b c fx fa fb e p f).0))
     (λ p. by_turned (less (pos 0) a) (λ f. mac_r_clamp a b c fx fa fb flag input (Accumulations.corner_high a b c fx fa fb e p f).0) (λ f. mac_r_clamp a b c fx fa fb flag input (Accumulations.corner_low a b c fx fa fb e p f).0)))
     (λ e. by_turned (less (added a two) a) (λ f. mac_r_clamp a b c fx fa fb flag input (Accumulations.up_changes a b c fx fa fb e f).0) (λ f. mac_r_clamp a b c fx fa fb flag input (Accumulations.up_keeps a b c fx fa fb e f).0))
-mac_r Flag guard site a b c flag input small asked =
+mac_r Flag guard in_place site a b c flag input small asked =
     let fx = asked.fit.0 in
     let fa = asked.fit.1.0 in
     let fb = asked.fit.1.1.0 in
@@ -97,16 +97,16 @@ mac_r Flag guard site a b c flag input small asked =
 -- ---- the operand alone
 
 pub round : (form : Form) (guard : Guard) → IsCourse (Call op.Round) form guard
-round Plain guard site a b c flag input small asked = ends_same (plain_rounding a asked.fit.0 (asked.unclipped refl))
-round Clamp guard site a b c flag input small asked = rounding_clamp a asked.fit.0 flag input
-round Flag guard site a b c flag input small asked = rounding_flag a asked.fit.0 flag input
+round Plain guard in_place site a b c flag input small asked = ends_same (plain_rounding a asked.fit.0 (asked.unclipped refl))
+round Clamp guard in_place site a b c flag input small asked = rounding_clamp a asked.fit.0 flag input
+round Flag guard in_place site a b c flag input small asked = rounding_flag a asked.fit.0 flag input
 
 -- ---- differences
 
 pub l_msu : (form : Form) (guard : Guard) → IsCourse (Call op.LMsu) form guard
-l_msu Plain guard site a b c flag input small asked =
+l_msu Plain guard in_place site a b c flag input small asked =
     ends_same (Reductions.plain_keeps a b c asked.fit.0 asked.fit.1.0 asked.fit.1.1.0 (asked.unclipped refl)).0
-l_msu Clamp guard site a b c flag input small asked =
+l_msu Clamp guard in_place site a b c flag input small asked =
     let fx = asked.fit.0 in
     let fa = asked.fit.1.0 in
     let fb = asked.fit.1.1.0 in
@@ -116,7 +116,7 @@ l_msu Clamp guard site a b c flag input small asked =
     (λ p. by_test (less a (taken a two)) (λ f. ends_same (Reductions.down_keeps a b c fx fa fb e p f).0) (λ f. ends_same (Reductions.down_changes a b c fx fa fb e p f).0))
     (λ p. by_turned (less a (added (pos 0) (negsuc 0))) (λ f. ends_same (Reductions.corner_low a b c fx fa fb e p f).0) (λ f. ends_same (Reductions.corner_high a b c fx fa fb e p f).0)))
     (λ e. by_turned (less a (taken a two)) (λ f. ends_same (Reductions.up_changes a b c fx fa fb e f).0) (λ f. ends_same (Reductions.up_keeps a b c fx fa fb e f).0))
-l_msu Flag guard site a b c flag input small asked =
+l_msu Flag guard in_place site a b c flag input small asked =
     let fx = asked.fit.0 in
     let fa = asked.fit.1.0 in
     let fb = asked.fit.1.1.0 in
@@ -150,10 +150,10 @@ module _ (a b c : ℤ) (fx : FitsSigned w32 a) (fa : FitsSigned w16 b) (fb : Fit
       ∙ ap (λ m. Ends (rounded (reduced a b c)) (if m || rounding_clips (reduced a b c) then pos 1 else flag) input) (sym some)
 
 pub msu_r : (form : Form) (guard : Guard) → IsCourse (Call op.MsuR) form guard
-msu_r Plain guard site a b c flag input small asked =
+msu_r Plain guard in_place site a b c flag input small asked =
     let k = Reductions.plain_keeps a b c asked.fit.0 asked.fit.1.0 asked.fit.1.1.0 (no_first _ _ (asked.unclipped refl)) in
     ends_same (ap (λ v. to_right_signed (added v (upper 8)) 16) k.0 ∙ plain_rounding (reduced a b c) (clip_fits (a -ℤ clip32 (product_of b c))) (no_second _ _ (asked.unclipped refl)))
-msu_r Clamp guard site a b c flag input small asked =
+msu_r Clamp guard in_place site a b c flag input small asked =
     let fx = asked.fit.0 in
     let fa = asked.fit.1.0 in
     let fb = asked.fit.1.1.0 in
@@ -163,7 +163,7 @@ msu_r Clamp guard site a b c flag input small asked =
     (λ p. by_test (less a (taken a two)) (λ f. msu_r_clamp a b c fx fa fb flag input (Reductions.down_keeps a b c fx fa fb e p f).0) (λ f. msu_r_clamp a b c fx fa fb flag input (Reductions.down_changes a b c fx fa fb e p f).0))
     (λ p. by_turned (less a (added (pos 0) (negsuc 0))) (λ f. msu_r_clamp a b c fx fa fb flag input (Reductions.corner_low a b c fx fa fb e p f).0) (λ f. msu_r_clamp a b c fx fa fb flag input (Reductions.corner_high a b c fx fa fb e p f).0)))
     (λ e. by_turned (less a (taken a two)) (λ f. msu_r_clamp a b c fx fa fb flag input (Reductions.up_changes a b c fx fa fb e f).0) (λ f. msu_r_clamp a b c fx fa fb flag input (Reductions.up_keeps a b c fx fa fb e f).0))
-msu_r Flag guard site a b c flag input small asked =
+msu_r Flag guard in_place site a b c flag input small asked =
     let fx = asked.fit.0 in
     let fa = asked.fit.1.0 in
     let fb = asked.fit.1.1.0 in

@@ -10,8 +10,9 @@ use Rattle.template_runs.specs.Values.{added, taken, less, equal, upper}
 use Rattle.template_runs.specs.Courses.{runs}
 use Rattle.template_runs.specs.Machine.{begun}
 use Rattle.operator_lowering.specs.declared.tables.halves.TheConstants.{NEGATE_PLAIN}
-use Rattle.operator_lowering.specs.Courses.{IsCourse}
+use Rattle.operator_lowering.specs.Courses.{IsCourse, apart_of}
 use Rattle.operator_lowering.specs.Sites.{of_32_bits, led_to}
+use Rattle.operator_lowering.specs.declared.way.Way.TheVariants.{Straight, KeepsFirst, Turns}
 use Rattle.operator_lowering.specs.Words.{checked_by, sum_check, difference_check, opposite_check}
 use Rattle.operator_lowering.proofs.Constants.{by_size, five}
 use Rattle.operator_lowering.proofs.Leads.{between_inside, between_above, between_below, leads, halts}
@@ -108,15 +109,29 @@ within_of t goes_on = by_range32 t (λ low high. (low, high)) (λ over. absurd (
     before range under = let a = range.0 in grind (arith, ints)
 
 pub sum_gone : IsCourse kind.Sum Plain Gone
-sum_gone site a b c flag input small asked =
+sum_gone in_place site a b c flag input small asked =
     let range = within_of (a +ℤ b) (asked.goes_on refl) in
     leads site (added_within a b asked.fit.0 asked.fit.1.0 range.0 range.1) (gives (a +ℤ b) range)
 
 pub sum_kept : IsCourse kind.Sum Plain Kept
-sum_kept site a b c flag input small asked =
+sum_kept true site a b c flag input small asked =
     let fa = asked.fit.0 in
     let fb = asked.fit.1.0 in
-    let way = λ (b' : Bool). runs (checked_by b' sum_check site) 0 (begun 11 false false a b c flag input) ≡ led_to (of_32_bits (a +ℤ b)) site flag input in
+    let way = λ (b' : Bool). runs (checked_by b' (sum_check true) site) 0 (begun (apart_of Turns true) false false a b c flag input) ≡ led_to (of_32_bits (a +ℤ b)) site flag input in
+    by_size site
+    (λ e number. subst way (sym e)
+    (by_test (less b (pos 0))
+    (λ sign. by_test (less (added a b) a) (λ t. let k = down_gives a b fa fb sign t in leads site k.0 k.1) (λ t. rw five (halts site flag input number (down_stops a b fa fb sign t))))
+    (λ sign. by_turned (less (added a b) a) (λ t. rw five (halts site flag input number (up_stops a b fa fb sign t))) (λ t. let k = up_gives a b fa fb sign t in leads site k.0 k.1))))
+    (λ e number. subst way (sym e)
+    (by_test (less b (pos 0))
+    (λ sign. by_test (less (added a b) a) (λ t. let k = down_gives a b fa fb sign t in leads site k.0 k.1) (λ t. rw five (halts site flag input number (down_stops a b fa fb sign t))))
+    (λ sign. by_turned (less (added a b) a) (λ t. rw five (halts site flag input number (up_stops a b fa fb sign t))) (λ t. let k = up_gives a b fa fb sign t in leads site k.0 k.1))))
+    small
+sum_kept false site a b c flag input small asked =
+    let fa = asked.fit.0 in
+    let fb = asked.fit.1.0 in
+    let way = λ (b' : Bool). runs (checked_by b' (sum_check false) site) 0 (begun (apart_of Turns false) false false a b c flag input) ≡ led_to (of_32_bits (a +ℤ b)) site flag input in
     by_size site
     (λ e number. subst way (sym e)
     (by_test (less b (pos 0))
@@ -129,15 +144,29 @@ sum_kept site a b c flag input small asked =
     small
 
 pub difference_gone : IsCourse kind.Difference Plain Gone
-difference_gone site a b c flag input small asked =
+difference_gone in_place site a b c flag input small asked =
     let range = within_of (a -ℤ b) (asked.goes_on refl) in
     leads site (taken_within a b asked.fit.0 asked.fit.1.0 range.0 range.1) (gives (a -ℤ b) range)
 
 pub difference_kept : IsCourse kind.Difference Plain Kept
-difference_kept site a b c flag input small asked =
+difference_kept true site a b c flag input small asked =
     let fa = asked.fit.0 in
     let fb = asked.fit.1.0 in
-    let way = λ (b' : Bool). runs (checked_by b' difference_check site) 0 (begun 11 false false a b c flag input) ≡ led_to (of_32_bits (a -ℤ b)) site flag input in
+    let way = λ (b' : Bool). runs (checked_by b' (difference_check true) site) 0 (begun (apart_of KeepsFirst true) false false a b c flag input) ≡ led_to (of_32_bits (a -ℤ b)) site flag input in
+    by_size site
+    (λ e number. subst way (sym e)
+    (by_test (less b (pos 0))
+    (λ sign. by_test (less a (taken a b)) (λ t. let k = rise_gives a b fa fb sign t in leads site k.0 k.1) (λ t. rw five (halts site flag input number (rise_stops a b fa fb sign t))))
+    (λ sign. by_turned (less a (taken a b)) (λ t. rw five (halts site flag input number (fall_stops a b fa fb sign t))) (λ t. let k = fall_gives a b fa fb sign t in leads site k.0 k.1))))
+    (λ e number. subst way (sym e)
+    (by_test (less b (pos 0))
+    (λ sign. by_test (less a (taken a b)) (λ t. let k = rise_gives a b fa fb sign t in leads site k.0 k.1) (λ t. rw five (halts site flag input number (rise_stops a b fa fb sign t))))
+    (λ sign. by_turned (less a (taken a b)) (λ t. rw five (halts site flag input number (fall_stops a b fa fb sign t))) (λ t. let k = fall_gives a b fa fb sign t in leads site k.0 k.1))))
+    small
+difference_kept false site a b c flag input small asked =
+    let fa = asked.fit.0 in
+    let fb = asked.fit.1.0 in
+    let way = λ (b' : Bool). runs (checked_by b' (difference_check false) site) 0 (begun (apart_of KeepsFirst false) false false a b c flag input) ≡ led_to (of_32_bits (a -ℤ b)) site flag input in
     by_size site
     (λ e number. subst way (sym e)
     (by_test (less b (pos 0))
@@ -163,12 +192,12 @@ opposite_stops : (a : ℤ) → a ≡ negsuc 2147483647 → of_32_bits (neg_ℤ a
 opposite_stops a e = ap (λ x. of_32_bits (neg_ℤ x)) e
 
 pub opposite_gone : IsCourse kind.Opposite Plain Gone
-opposite_gone site a b c flag input small asked =
+opposite_gone in_place site a b c flag input small asked =
     let k = opposite_is a asked.fit.0 (λ e. asked.goes_on refl (opposite_stops a e)) in leads site k.0 (gives (neg_ℤ a) k.1)
 
 pub opposite_kept : IsCourse kind.Opposite Plain Kept
-opposite_kept site a b c flag input small asked =
-    let way = λ (b' : Bool). runs (checked_by b' opposite_check site ++ NEGATE_PLAIN) 0 (begun 0 false false a b c flag input) ≡ led_to (of_32_bits (neg_ℤ a)) site flag input in
+opposite_kept in_place site a b c flag input small asked =
+    let way = λ (b' : Bool). runs (checked_by b' opposite_check site ++ NEGATE_PLAIN) 0 (begun (apart_of Straight in_place) false false a b c flag input) ≡ led_to (of_32_bits (neg_ℤ a)) site flag input in
     by_size site
     (λ e number. subst way (sym e)
     (by_turned (equal a (upper 0x80000)) (λ t. rw five (halts site flag input number (opposite_stops a (equal_true _ _ t ∙ least))))

@@ -11,8 +11,9 @@ use Rattle.operator_meaning.specs.declared.site.Guard.TheVariants.{Kept, Gone}
 use Rattle.template_runs.specs.Courses.{Final, Stops, runs}
 use Rattle.template_runs.specs.Machine.{begun}
 use Rattle.template_runs.specs.Values.{added, multiplied, multiplied_high, to_right_signed, less, equal, below}
-use Rattle.operator_lowering.specs.Courses.{IsCourse}
+use Rattle.operator_lowering.specs.Courses.{IsCourse, apart_of}
 use Rattle.operator_lowering.specs.Sites.{of_32_bits, led_to, between}
+use Rattle.operator_lowering.specs.declared.way.Way.TheVariants.{Straight, Moves, KeepsThird}
 use Rattle.operator_lowering.specs.Words.{checked_by, is_small, bound_of, product_check, bound_check, view_check, edge_check, sample_check, sample_words}
 use Rattle.operator_lowering.proofs.Constants.{by_size, one, two, five}
 use Rattle.operator_lowering.proofs.CheckCourses.{gives, stops, within_of}
@@ -25,15 +26,15 @@ use Rattle.operator_lowering.proofs.WideProducts.{product_inside, product_outsid
 -- ---- products
 
 pub product_gone : IsCourse kind.Product Plain Gone
-product_gone site a b c flag input small asked =
+product_gone in_place site a b c flag input small asked =
     let range = within_of (a *ℤ b) (asked.goes_on refl) in
     leads site (product_exact a b asked.fit.0 asked.fit.1.0 range) (gives (a *ℤ b) range)
 
 pub product_kept : IsCourse kind.Product Plain Kept
-product_kept site a b c flag input small asked =
+product_kept in_place site a b c flag input small asked =
     let fa = asked.fit.0 in
     let fb = asked.fit.1.0 in
-    let way = λ (b' : Bool). runs (checked_by b' product_check site) 0 (begun 0 false false a b c flag input) ≡ led_to (of_32_bits (a *ℤ b)) site flag input in
+    let way = λ (b' : Bool). runs (checked_by b' product_check site) 0 (begun (apart_of Straight in_place) false false a b c flag input) ≡ led_to (of_32_bits (a *ℤ b)) site flag input in
     by_size site
     (λ e number. subst way (sym e)
     (by_test (equal (multiplied_high a b) (to_right_signed (multiplied a b) 31)) (λ t. let k = product_inside a b fa fb (equal_true _ _ t) in leads site k.1 (gives (a *ℤ b) k.0))
@@ -66,17 +67,17 @@ module _ (a : ℤ) (bound : ℕ) (fits : FitsSigned w32 a) where
       over a t low fits = grind (arith, ints)
 
 pub bound_gone : (bound : ℕ) → IsCourse (kind.Bound bound) Plain Gone
-bound_gone bound site a b c flag input small asked =
+bound_gone bound in_place site a b c flag input small asked =
     ⊎_elim
     (λ (e : between (pos 0) (pos bound -ℤ pos 1) a ≡ Some a). leads site refl e)
     (λ (e : between (pos 0) (pos bound -ℤ pos 1) a ≡ None). absurd (asked.goes_on refl e))
     (either_way (pos 0) (pos bound -ℤ pos 1) a)
 
 pub bound_kept : (bound : ℕ) → IsCourse (kind.Bound bound) Plain Kept
-bound_kept bound site a b c flag input small asked =
+bound_kept bound in_place site a b c flag input small asked =
     let fits = asked.fit.0 in
     let n = bound_of bound in
-    let way = λ (m s : Bool). runs (checked_by s (bound_check m n) site) 0 (begun 0 false true a b c flag input) ≡ led_to (between (pos 0) (pos bound -ℤ pos 1) a) site flag input in
+    let way = λ (m s : Bool). runs (checked_by s (bound_check m n) site) 0 (begun (apart_of Moves in_place) false true a b c flag input) ≡ led_to (between (pos 0) (pos bound -ℤ pos 1) a) site flag input in
     let in_limit = λ (x : ℤ) (is : x ≡ cast_signed w32 n) (t : below a x ≡ true). inside a bound fits (subst (λ y. below a y ≡ true) is t) in
     let past_limit = λ (x : ℤ) (is : x ≡ cast_signed w32 n) (t : below a x ≡ false). outside a bound fits (subst (λ y. below a y ≡ false) is t) in
     by_size n
@@ -188,11 +189,11 @@ stop_is : {v : ℤ} (site : ℕ) (flag : ℤ) (input : List ℤ) → v ≡ cast_
 stop_is {v} site flag input number = ap Stops number
 
 pub view_kept : IsCourse kind.ViewBound Plain Kept
-view_kept site a b c flag input small asked =
+view_kept in_place site a b c flag input small asked =
     let fa = asked.fit.0 in
     let fb = asked.fit.1.0 in
     let fc = asked.fit.1.1.0 in
-    let way = λ (b' : Bool). runs (checked_by b' view_check site) 0 (begun 13 false false a b c flag input) ≡ led_to (between (pos 0) (c -ℤ pos 1) (a +ℤ b)) site flag input in
+    let way = λ (b' : Bool). runs (checked_by b' view_check site) 0 (begun (apart_of KeepsThird in_place) false false a b c flag input) ≡ led_to (between (pos 0) (c -ℤ pos 1) (a +ℤ b)) site flag input in
     by_size site
     (λ e number. subst way (sym e)
     (rw five (view_tree a b (c -ℤ pos 1) fa fb (last_fits c fc) site flag input _ _ (stop_is site flag input number)
@@ -205,11 +206,11 @@ view_kept site a b c flag input small asked =
     small
 
 pub edge_kept : IsCourse kind.ViewEdge Plain Kept
-edge_kept site a b c flag input small asked =
+edge_kept in_place site a b c flag input small asked =
     let fa = asked.fit.0 in
     let fb = asked.fit.1.0 in
     let fc = asked.fit.1.1.0 in
-    let way = λ (b' : Bool). runs (checked_by b' edge_check site) 0 (begun 13 false false a b c flag input) ≡ led_to (between (pos 0) c (a +ℤ b)) site flag input in
+    let way = λ (b' : Bool). runs (checked_by b' edge_check site) 0 (begun (apart_of KeepsThird in_place) false false a b c flag input) ≡ led_to (between (pos 0) c (a +ℤ b)) site flag input in
     by_size site
     (λ e number. subst way (sym e)
     (rw five (view_tree a b c fa fb (length_fits c fc) site flag input _ _ (stop_is site flag input number)
@@ -240,11 +241,11 @@ view_sum a b h fa fb most goes_on =
     negative under = grind (arith, ints)
 
 pub view_gone : IsCourse kind.ViewBound Plain Gone
-view_gone site a b c flag input small asked =
+view_gone in_place site a b c flag input small asked =
     let k = view_sum a b (c -ℤ pos 1) asked.fit.0 asked.fit.1.0 (last_fits c asked.fit.1.1.0) (asked.goes_on refl) in leads site k.0 k.1
 
 pub edge_gone : IsCourse kind.ViewEdge Plain Gone
-edge_gone site a b c flag input small asked =
+edge_gone in_place site a b c flag input small asked =
     let k = view_sum a b c asked.fit.0 asked.fit.1.0 (length_fits c asked.fit.1.1.0) (asked.goes_on refl) in leads site k.0 k.1
 
 -- ---- samples
@@ -262,16 +263,16 @@ unfolding added
 same_sample sample fits = grind (arith, ints)
 
 pub sample_gone : IsCourse kind.Sample Plain Gone
-sample_gone site a b c flag [] small asked = absurd (asked.goes_on refl refl)
-sample_gone site a b c flag (sample ∷ left) small asked = rw two (leads site (same_sample sample (All-head (FitsSigned w16) sample left asked.samples)) refl)
+sample_gone in_place site a b c flag [] small asked = absurd (asked.goes_on refl refl)
+sample_gone in_place site a b c flag (sample ∷ left) small asked = rw two (leads site (same_sample sample (All-head (FitsSigned w16) sample left asked.samples)) refl)
 
 pub sample_kept : IsCourse kind.Sample Plain Kept
-sample_kept site a b c flag [] small asked =
-    let way = λ (b' : Bool). runs (checked_by b' sample_check site ++ sample_words) 0 (begun 0 true false a b c flag []) ≡ led_to None site flag [] in
+sample_kept in_place site a b c flag [] small asked =
+    let way = λ (b' : Bool). runs (checked_by b' sample_check site ++ sample_words) 0 (begun (apart_of Straight in_place) true false a b c flag []) ≡ led_to None site flag [] in
     by_size site (λ e number. subst way (sym e) (rw (one, none_left, five) (halts site flag [] number refl)))
     (λ e number. subst way (sym e) (rw (one, none_left, five) (halts site flag [] number refl))) small
-sample_kept site a b c flag (sample ∷ left) small asked =
+sample_kept in_place site a b c flag (sample ∷ left) small asked =
     let same = same_sample sample (All-head (FitsSigned w16) sample left asked.samples) in
-    let way = λ (b' : Bool). runs (checked_by b' sample_check site ++ sample_words) 0 (begun 0 true false a b c flag (sample ∷ left)) ≡ led_to (Some sample) site flag left in
+    let way = λ (b' : Bool). runs (checked_by b' sample_check site ++ sample_words) 0 (begun (apart_of Straight in_place) true false a b c flag (sample ∷ left)) ≡ led_to (Some sample) site flag left in
     by_size site (λ e number. subst way (sym e) (rw (one, some_left, two) (leads site same refl)))
     (λ e number. subst way (sym e) (rw (one, some_left, two) (leads site same refl))) small

@@ -45,24 +45,24 @@ unfolding to_left
 raised_half a fits = grind (arith, ints)
 
 pub extract_h : (form : Form) (guard : Guard) → IsCourse (Call op.ExtractH) form guard
-extract_h Plain guard site a b c flag input small asked = ends_same (upper_half a asked.fit.0)
-extract_h Clamp guard site a b c flag input small asked = ends_same (upper_half a asked.fit.0)
-extract_h Flag guard site a b c flag input small asked = ends_same (upper_half a asked.fit.0)
+extract_h Plain guard in_place site a b c flag input small asked = ends_same (upper_half a asked.fit.0)
+extract_h Clamp guard in_place site a b c flag input small asked = ends_same (upper_half a asked.fit.0)
+extract_h Flag guard in_place site a b c flag input small asked = ends_same (upper_half a asked.fit.0)
 
 pub extract_l : (form : Form) (guard : Guard) → IsCourse (Call op.ExtractL) form guard
-extract_l Plain guard site a b c flag input small asked = ends_same (lower_half a asked.fit.0)
-extract_l Clamp guard site a b c flag input small asked = ends_same (lower_half a asked.fit.0)
-extract_l Flag guard site a b c flag input small asked = ends_same (lower_half a asked.fit.0)
+extract_l Plain guard in_place site a b c flag input small asked = ends_same (lower_half a asked.fit.0)
+extract_l Clamp guard in_place site a b c flag input small asked = ends_same (lower_half a asked.fit.0)
+extract_l Flag guard in_place site a b c flag input small asked = ends_same (lower_half a asked.fit.0)
 
 pub l_deposit_h : (form : Form) (guard : Guard) → IsCourse (Call op.LDepositH) form guard
-l_deposit_h Plain guard site a b c flag input small asked = ends_same (raised_half a asked.fit.0)
-l_deposit_h Clamp guard site a b c flag input small asked = ends_same (raised_half a asked.fit.0)
-l_deposit_h Flag guard site a b c flag input small asked = ends_same (raised_half a asked.fit.0)
+l_deposit_h Plain guard in_place site a b c flag input small asked = ends_same (raised_half a asked.fit.0)
+l_deposit_h Clamp guard in_place site a b c flag input small asked = ends_same (raised_half a asked.fit.0)
+l_deposit_h Flag guard in_place site a b c flag input small asked = ends_same (raised_half a asked.fit.0)
 
 pub l_deposit_l : (form : Form) (guard : Guard) → IsCourse (Call op.LDepositL) form guard
-l_deposit_l Plain guard site a b c flag input small asked = refl
-l_deposit_l Clamp guard site a b c flag input small asked = refl
-l_deposit_l Flag guard site a b c flag input small asked = refl
+l_deposit_l Plain guard in_place site a b c flag input small asked = refl
+l_deposit_l Clamp guard in_place site a b c flag input small asked = refl
+l_deposit_l Flag guard in_place site a b c flag input small asked = refl
 
 -- ---- magnitudes
 
@@ -217,21 +217,21 @@ less_than32 : (n : ℕ) → pos n ≤ℤ pos 32767 → pos n ≤ℤ pos 21474836
 less_than32 n less = grind (arith, ints)
 
 pub abs_s : (form : Form) (guard : Guard) → IsCourse (Call op.AbsS) form guard
-abs_s Plain guard site a b c flag input small asked =
+abs_s Plain guard in_place site a b c flag input small asked =
     let range = range_of_kept16 (pos (unsigned_abs a)) (asked.unclipped refl) in
     ends_same (magnitude a (long_of_short a asked.fit.0) (less_than32 (unsigned_abs a) range.1) ∙ (kept16 (pos (unsigned_abs a)) range.0 range.1).0)
-abs_s Clamp guard site a b c flag input small asked =
+abs_s Clamp guard in_place site a b c flag input small asked =
     by_turned (less a (pos 0)) (λ e. ends_same (turned16_is a asked.fit.0 (less_true _ _ e))) (λ e. ends_same (same16 a asked.fit.0 (less_false _ _ e)))
-abs_s Flag guard site a b c flag input small asked =
+abs_s Flag guard in_place site a b c flag input small asked =
     by_turned (less a (pos 0)) (λ e. ends_same (turned16_is a asked.fit.0 (less_true _ _ e))) (λ e. ends_same (same16 a asked.fit.0 (less_false _ _ e)))
 
 pub l_abs : (form : Form) (guard : Guard) → IsCourse (Call op.LAbs) form guard
-l_abs Plain guard site a b c flag input small asked =
+l_abs Plain guard in_place site a b c flag input small asked =
     let range = range_of_kept32 (pos (unsigned_abs a)) (asked.unclipped refl) in
     ends_same (magnitude a asked.fit.0 range.1 ∙ (kept32 (pos (unsigned_abs a)) range.0 range.1).0)
-l_abs Clamp guard site a b c flag input small asked =
+l_abs Clamp guard in_place site a b c flag input small asked =
     by_turned (less a (pos 0)) (λ e. ends_same (turned32_is a asked.fit.0 (less_true _ _ e))) (λ e. ends_same (same32 a asked.fit.0 (less_false _ _ e)))
-l_abs Flag guard site a b c flag input small asked =
+l_abs Flag guard in_place site a b c flag input small asked =
     by_turned (less a (pos 0)) (λ e. ends_same (turned32_is a asked.fit.0 (less_true _ _ e))) (λ e. ends_same (same32 a asked.fit.0 (less_false _ _ e)))
 
 -- ---- opposites
@@ -318,25 +318,25 @@ negated32 : (a : ℤ) → FitsSigned w32 a → equal (taken (pos 0) a) (upper 0x
 negated32 a fits e = let is = equal_true _ _ e ∙ upper_sign in ap (λ v. added v (negsuc 0)) is ∙ greatest32 ∙ past32 a fits is
 
 pub negate : (form : Form) (guard : Guard) → IsCourse (Call op.Negate) form guard
-negate Plain guard site a b c flag input small asked =
+negate Plain guard in_place site a b c flag input small asked =
     let range = range_of_kept16 (neg_ℤ a) (asked.unclipped refl) in
     ends_same (opposite_is a (long_of_short a asked.fit.0) (low range.1) ∙ sym (neg_is a) ∙ (kept16 (neg_ℤ a) range.0 range.1).0)
   where
     low : neg_ℤ a ≤ℤ pos 32767 → negsuc 2147483646 ≤ℤ a
     low high = grind (arith, ints)
-negate Clamp guard site a b c flag input small asked =
+negate Clamp guard in_place site a b c flag input small asked =
     by_turned (equal (taken (pos 0) a) (upper 8)) (λ e. ends_same (negated16 a asked.fit.0 e)) (λ e. ends_same (opposite16 a asked.fit.0 (λ is. equal_false _ _ e (is ∙ sym upper_8))))
-negate Flag guard site a b c flag input small asked =
+negate Flag guard in_place site a b c flag input small asked =
     by_turned (equal (taken (pos 0) a) (upper 8)) (λ e. ends_same (negated16 a asked.fit.0 e)) (λ e. ends_same (opposite16 a asked.fit.0 (λ is. equal_false _ _ e (is ∙ sym upper_8))))
 
 pub l_negate : (form : Form) (guard : Guard) → IsCourse (Call op.LNegate) form guard
-l_negate Plain guard site a b c flag input small asked =
+l_negate Plain guard in_place site a b c flag input small asked =
     let range = range_of_kept32 (neg_ℤ a) (asked.unclipped refl) in
     ends_same (opposite_is a asked.fit.0 (low range.1) ∙ sym (neg_is a) ∙ (kept32 (neg_ℤ a) range.0 range.1).0)
   where
     low : neg_ℤ a ≤ℤ pos 2147483647 → negsuc 2147483646 ≤ℤ a
     low high = grind (arith, ints)
-l_negate Clamp guard site a b c flag input small asked =
+l_negate Clamp guard in_place site a b c flag input small asked =
     by_turned (equal (taken (pos 0) a) (upper 0x80000)) (λ e. ends_same (negated32 a asked.fit.0 e)) (λ e. ends_same (opposite32 a asked.fit.0 (λ is. equal_false _ _ e (is ∙ sym upper_sign))))
-l_negate Flag guard site a b c flag input small asked =
+l_negate Flag guard in_place site a b c flag input small asked =
     by_turned (equal (taken (pos 0) a) (upper 0x80000)) (λ e. ends_same (negated32 a asked.fit.0 e)) (λ e. ends_same (opposite32 a asked.fit.0 (λ is. equal_false _ _ e (is ∙ sym upper_sign))))

@@ -20,6 +20,7 @@ pub mod Norms
 pub mod NormCourses
 pub mod Shifts
 pub mod ShiftTrees
+pub mod Counts
 pub mod ShiftCourses
 pub mod AllCourses
 pub mod Ways

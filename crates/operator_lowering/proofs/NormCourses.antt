@@ -1,5 +1,5 @@
 -- The courses of norms.
-use Rattle.std.proofs.Common.{◌≡◌, ◌≢◌, ℕ, ◌+◌, ◌-◌, ◌*◌, ◌/◌, ◌^◌, ◌<◌, ◌≤◌, ℤ, pos, negsuc, true, false, not, if◌then◌else◌, List, refl, sym, ap, ◌∙◌, arith, ⊎_elim, lit≤, lit<, pow_pos, add-one}
+use Rattle.std.proofs.Common.{◌≡◌, ◌≢◌, ℕ, ◌+◌, ◌-◌, ◌*◌, ◌/◌, ◌^◌, ◌<◌, ◌≤◌, ℤ, pos, negsuc, Bool, true, false, not, if◌then◌else◌, List, refl, sym, ap, ◌∙◌, arith, ⊎_elim, lit≤, lit<, pow_pos, add-one}
 use Rattle.std.proofs.Math.Nat.{pow-succ'}
 use Rattle.std.proofs.lemmas.Bool.{cases_lt}
 use Rattle.std.proofs.lemmas.Nat.{div_below, le-div}
@@ -18,7 +18,8 @@ use Rattle.template_runs.specs.Courses.{Final, Ends, runs}
 use Rattle.template_runs.specs.Machine.{begun}
 use Rattle.template_runs.specs.Values.{added, taken, equal, both_bits, to_left, to_right, to_right_signed, other_bits}
 use Rattle.operator_lowering.specs.declared.tables.norms.TheConstants.{NORM_S, NORM_L}
-use Rattle.operator_lowering.specs.Courses.{IsCourse}
+use Rattle.operator_lowering.specs.Courses.{IsCourse, apart_of}
+use Rattle.operator_lowering.specs.declared.way.Way.TheVariants.{Straight}
 use Rattle.operator_lowering.proofs.Constants.{one}
 use Rattle.operator_lowering.proofs.Norms.{IsStage, halved, norm_by, bits_are, right_of}
 use Rattle.operator_lowering.proofs.Numbers.{equal_true, equal_false}
@@ -177,24 +178,24 @@ no_bits a is e = let same : pos (mag a) ≡ pos 0 = sym is ∙ equal_true _ _ e 
 some_bits : (a : ℤ) → own a ≡ pos (mag a) → equal (own a) (pos 0) ≡ false → 0 < mag a
 some_bits a is e = ⊎_elim (λ (less : 0 < mag a). less) (λ (none : mag a ≤ 0). absurd (equal_false _ _ e (is ∙ ap pos (omega arith)))) (cases_lt 0 (mag a))
 
-found_short : (a b c flag : ℤ) (input : List ℤ) → FitsSigned w16 a → runs NORM_S 0 (begun 0 false false a b c flag input) ≡ Ends (norm 14 a) flag input
-found_short a b c flag input fits =
+found_short : (in_place : Bool) (a b c flag : ℤ) (input : List ℤ) → FitsSigned w16 a → runs NORM_S 0 (begun (apart_of Straight in_place) false false a b c flag input) ≡ Ends (norm 14 a) flag input
+found_short in_place a b c flag input fits =
     let bits = bits_are a (long_of_short a fits) in
     by_test (equal (own a) (pos 0)) (λ e. ends_same (special_s a (no_bits a bits.0 e)))
     (λ e. let some = some_bits a bits.0 e in found_s a (not_zero a some) some fits.sfits flag input (own a) (added (pos 0) (pos 1)) bits.0 one)
 
-found_long : (a b c flag : ℤ) (input : List ℤ) → FitsSigned w32 a → runs NORM_L 0 (begun 0 false false a b c flag input) ≡ Ends (norm 30 a) flag input
-found_long a b c flag input fits =
+found_long : (in_place : Bool) (a b c flag : ℤ) (input : List ℤ) → FitsSigned w32 a → runs NORM_L 0 (begun (apart_of Straight in_place) false false a b c flag input) ≡ Ends (norm 30 a) flag input
+found_long in_place a b c flag input fits =
     let bits = bits_are a fits in
     by_test (equal (own a) (pos 0)) (λ e. ends_same (special_l a (no_bits a bits.0 e)))
     (λ e. let some = some_bits a bits.0 e in found_l a (not_zero a some) some fits.sfits flag input (own a) (added (pos 0) (pos 1)) bits.0 one)
 
 pub norm_s : (form : Form) (guard : Guard) → IsCourse (Call op.NormS) form guard
-norm_s Plain guard site a b c flag input small asked = found_short a b c flag input asked.fit.0
-norm_s Clamp guard site a b c flag input small asked = found_short a b c flag input asked.fit.0
-norm_s Flag guard site a b c flag input small asked = found_short a b c flag input asked.fit.0
+norm_s Plain guard in_place site a b c flag input small asked = found_short in_place a b c flag input asked.fit.0
+norm_s Clamp guard in_place site a b c flag input small asked = found_short in_place a b c flag input asked.fit.0
+norm_s Flag guard in_place site a b c flag input small asked = found_short in_place a b c flag input asked.fit.0
 
 pub norm_l : (form : Form) (guard : Guard) → IsCourse (Call op.NormL) form guard
-norm_l Plain guard site a b c flag input small asked = found_long a b c flag input asked.fit.0
-norm_l Clamp guard site a b c flag input small asked = found_long a b c flag input asked.fit.0
-norm_l Flag guard site a b c flag input small asked = found_long a b c flag input asked.fit.0
+norm_l Plain guard in_place site a b c flag input small asked = found_long in_place a b c flag input asked.fit.0
+norm_l Clamp guard in_place site a b c flag input small asked = found_long in_place a b c flag input asked.fit.0
+norm_l Flag guard in_place site a b c flag input small asked = found_long in_place a b c flag input asked.fit.0

@@ -64,24 +64,24 @@ mult_r_is a b fits_a fits_b =
     (ap (λ p. to_right_signed (added (to_right_signed p 14) (pos 1)) 1) is.0 ∙ k.0, k.1, k.2)
 
 pub mult : (form : Form) (guard : Guard) → IsCourse (Call op.Mult) form guard
-mult Plain guard site a b c flag input small asked =
+mult Plain guard in_place site a b c flag input small asked =
     let k = mult_is a b asked.fit.0 asked.fit.1.0 in ends_same (plain_one _ _ k.0 k.1 k.2 (asked.unclipped refl))
-mult Clamp guard site a b c flag input small asked =
+mult Clamp guard in_place site a b c flag input small asked =
     let k = mult_is a b asked.fit.0 asked.fit.1.0 in
     by_turned (equal (to_right_signed (multiplied a b) 15) (upper 8)) (λ e. ends_same (at_one _ _ k.0 k.1 k.2 e).0) (λ e. ends_same (below_one _ _ k.0 k.1 k.2 e).0)
-mult Flag guard site a b c flag input small asked =
+mult Flag guard in_place site a b c flag input small asked =
     let k = mult_is a b asked.fit.0 asked.fit.1.0 in
     let clip = changes16 (floor (a *ℤ b) 32768) in
     by_turned (equal (to_right_signed (multiplied a b) 15) (upper 8)) (λ e. let o = at_one _ _ k.0 k.1 k.2 e in ends_changed flag clip o.0 o.1)
     (λ e. let o = below_one _ _ k.0 k.1 k.2 e in ends_kept flag clip o.0 o.1)
 
 pub mult_r : (form : Form) (guard : Guard) → IsCourse (Call op.MultR) form guard
-mult_r Plain guard site a b c flag input small asked =
+mult_r Plain guard in_place site a b c flag input small asked =
     let k = mult_r_is a b asked.fit.0 asked.fit.1.0 in ends_same (plain_one _ _ k.0 k.1 k.2 (asked.unclipped refl))
-mult_r Clamp guard site a b c flag input small asked =
+mult_r Clamp guard in_place site a b c flag input small asked =
     let k = mult_r_is a b asked.fit.0 asked.fit.1.0 in
     by_turned (equal (to_right_signed (added (to_right_signed (multiplied a b) 14) (pos 1)) 1) (upper 8)) (λ e. ends_same (at_one _ _ k.0 k.1 k.2 e).0) (λ e. ends_same (below_one _ _ k.0 k.1 k.2 e).0)
-mult_r Flag guard site a b c flag input small asked =
+mult_r Flag guard in_place site a b c flag input small asked =
     let k = mult_r_is a b asked.fit.0 asked.fit.1.0 in
     let clip = changes16 (floor (a *ℤ b +ℤ pos 16384) 32768) in
     by_turned (equal (to_right_signed (added (to_right_signed (multiplied a b) 14) (pos 1)) 1) (upper 8)) (λ e. let o = at_one _ _ k.0 k.1 k.2 e in ends_changed flag clip o.0 o.1)
@@ -99,14 +99,14 @@ module _ (a b : ℤ) (fits_a : FitsSigned w16 a) (fits_b : FitsSigned w16 b) whe
   clipped_twice two one = let k = twice_past a b fits_a fits_b (past a b fits_a fits_b two one) in (ap (λ x. added x (negsuc 0)) k.0 ∙ least_less ∙ k.1, k.2)
 
 pub l_mult : (form : Form) (guard : Guard) → IsCourse (Call op.LMult) form guard
-l_mult Plain guard site a b c flag input small asked =
+l_mult Plain guard in_place site a b c flag input small asked =
     let fits = asked.fit in ends_same (twice_exact a b fits.0 fits.1.0 (not_past_kept a b fits.0 fits.1.0 (asked.unclipped refl))).0
-l_mult Clamp guard site a b c flag input small asked =
+l_mult Clamp guard in_place site a b c flag input small asked =
     let fits = asked.fit in
     by_turned (less (twice_of a b) (pos 0))
     (λ two. by_test (less (multiplied a b) (pos 0)) (λ e. ends_same (twice_exact a b fits.0 fits.1.0 (not_past_below a b fits.0 fits.1.0 e)).0) (λ e. ends_same (clipped_twice a b fits.0 fits.1.0 two e).0))
     (λ two. ends_same (twice_exact a b fits.0 fits.1.0 (not_past a b fits.0 fits.1.0 two)).0)
-l_mult Flag guard site a b c flag input small asked =
+l_mult Flag guard in_place site a b c flag input small asked =
     let fits = asked.fit in
     let clip = changes32 (product_of a b) in
     by_turned (less (twice_of a b) (pos 0))

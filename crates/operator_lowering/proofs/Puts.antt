@@ -1,5 +1,5 @@
 -- Instructions that are put one after another.
-use Rattle.std.proofs.Common.{◌≡◌, ℕ, zero, suc, ◌+◌, ◌<◌, ◌≤◌, List, [], ◌∷◌, ◌++◌, map, take, length, get_or, true, ◌&&◌, refl, sym, ap, ◌∙◌, subst, arith, append_assoc, length-append}
+use Rattle.std.proofs.Common.{◌≡◌, ℕ, zero, suc, ◌+◌, ◌<◌, ◌≤◌, List, [], ◌∷◌, ◌++◌, map, take, length, get_or, Bool, true, ◌&&◌, refl, sym, ap, ◌∙◌, subst, arith, append_assoc, length-append}
 use Rattle.std.proofs.lemmas.List.{take_more, map-append, length-map, length-take}
 use Rattle.operator_meaning.specs.declared.operator.Op.{Op}
 use Rattle.operator_meaning.specs.declared.site.Form.{Form}
@@ -47,9 +47,9 @@ fit_parts (x ∷ xs) ys e =
     let more = fit_parts xs ys parts.1 in
     (ap (λ b. b && are_fit xs) parts.0 ∙ more.0, more.1)
 
-pub operator_parts : (o : Op) (form : Form) (xs ys : List Instr) → xs ++ ys ≡ operator_words o form → (are_fit xs ≡ true) × (are_fit ys ≡ true) × (length xs + length ys ≤ 90)
-operator_parts o form xs ys e =
-    let known = operator_fit o form in
+pub operator_parts : (o : Op) (form : Form) (in_place : Bool) (xs ys : List Instr) → xs ++ ys ≡ operator_words o form in_place → (are_fit xs ≡ true) × (are_fit ys ≡ true) × (length xs + length ys ≤ 90)
+operator_parts o form in_place xs ys e =
+    let known = operator_fit o form in_place in
     let parts = fit_parts xs ys (ap are_fit e ∙ known.0) in
     let few : length (xs ++ ys) ≤ 90 = subst (λ l. length l ≤ 90) (sym e) known.1 in
     let both = length-append xs ys in

@@ -12,8 +12,9 @@ use Rattle.template_runs.specs.Courses.{Ends, runs}
 use Rattle.template_runs.specs.Machine.{begun}
 use Rattle.template_runs.specs.Values.{less, below}
 use Rattle.operator_lowering.specs.declared.tables.products.TheConstants.{DIVIDE}
-use Rattle.operator_lowering.specs.Courses.{IsCourse}
+use Rattle.operator_lowering.specs.Courses.{IsCourse, apart_of}
 use Rattle.operator_lowering.specs.Sites.{led_to, flag_after}
+use Rattle.operator_lowering.specs.declared.way.Way.TheVariants.{Straight}
 use Rattle.operator_lowering.specs.Words.{checked_by, quotient_check}
 use Rattle.operator_lowering.proofs.Constants.{by_size, five}
 use Rattle.operator_lowering.proofs.Leads.{leads, halts}
@@ -33,14 +34,14 @@ valued : (a b flag : ℤ) (site : ℕ) (input : List ℤ) → FitsSigned w16 a �
 valued a b flag site input fa fb None is goes_on = absurd (goes_on refl)
 valued a b flag site input fa fb (Some w) is goes_on = leads site (quotient_gives a b w fa fb is) refl
 
-gone_to : (a b c flag : ℤ) (site : ℕ) (input : List ℤ) → FitsSigned w16 a → FitsSigned w16 b → (quotient a b ≡ None → ⊥)
-    → runs DIVIDE 0 (begun 0 false false a b c flag input) ≡ led_to (quotient a b) site flag input
-gone_to a b c flag site input fa fb goes_on = valued a b flag site input fa fb (quotient a b) refl goes_on
+gone_to : (in_place : Bool) (a b c flag : ℤ) (site : ℕ) (input : List ℤ) → FitsSigned w16 a → FitsSigned w16 b → (quotient a b ≡ None → ⊥)
+    → runs DIVIDE 0 (begun (apart_of Straight in_place) false false a b c flag input) ≡ led_to (quotient a b) site flag input
+gone_to in_place a b c flag site input fa fb goes_on = valued a b flag site input fa fb (quotient a b) refl goes_on
 
-kept_to : (a b c flag : ℤ) (site : ℕ) (input : List ℤ) → site < 2 ^ 32 → FitsSigned w16 a → FitsSigned w16 b
-    → runs (checked_by (Rattle.operator_lowering.specs.Words.is_small site) quotient_check site ++ DIVIDE) 0 (begun 0 false false a b c flag input) ≡ led_to (quotient a b) site flag input
-kept_to a b c flag site input small fa fb =
-    let way = λ (b' : Bool). runs (checked_by b' quotient_check site ++ DIVIDE) 0 (begun 0 false false a b c flag input) ≡ led_to (quotient a b) site flag input in
+kept_to : (in_place : Bool) (a b c flag : ℤ) (site : ℕ) (input : List ℤ) → site < 2 ^ 32 → FitsSigned w16 a → FitsSigned w16 b
+    → runs (checked_by (Rattle.operator_lowering.specs.Words.is_small site) quotient_check site ++ DIVIDE) 0 (begun (apart_of Straight in_place) false false a b c flag input) ≡ led_to (quotient a b) site flag input
+kept_to in_place a b c flag site input small fa fb =
+    let way = λ (b' : Bool). runs (checked_by b' quotient_check site ++ DIVIDE) 0 (begun (apart_of Straight in_place) false false a b c flag input) ≡ led_to (quotient a b) site flag input in
     by_size site
     (λ e number. subst way (sym e)
     (by_turned (less (pos 0) b)
@@ -55,11 +56,11 @@ kept_to a b c flag site input small fa fb =
     small
 
 pub div_s_gone : (form : Form) → IsCourse (Call op.DivS) form Gone
-div_s_gone Plain site a b c flag input small asked = gone_to a b c flag site input asked.fit.0 asked.fit.1.0 (asked.goes_on refl)
-div_s_gone Clamp site a b c flag input small asked = gone_to a b c flag site input asked.fit.0 asked.fit.1.0 (asked.goes_on refl)
-div_s_gone Flag site a b c flag input small asked = gone_to a b c flag site input asked.fit.0 asked.fit.1.0 (asked.goes_on refl)
+div_s_gone Plain in_place site a b c flag input small asked = gone_to in_place a b c flag site input asked.fit.0 asked.fit.1.0 (asked.goes_on refl)
+div_s_gone Clamp in_place site a b c flag input small asked = gone_to in_place a b c flag site input asked.fit.0 asked.fit.1.0 (asked.goes_on refl)
+div_s_gone Flag in_place site a b c flag input small asked = gone_to in_place a b c flag site input asked.fit.0 asked.fit.1.0 (asked.goes_on refl)
 
 pub div_s_kept : (form : Form) → IsCourse (Call op.DivS) form Kept
-div_s_kept Plain site a b c flag input small asked = kept_to a b c flag site input small asked.fit.0 asked.fit.1.0
-div_s_kept Clamp site a b c flag input small asked = kept_to a b c flag site input small asked.fit.0 asked.fit.1.0
-div_s_kept Flag site a b c flag input small asked = kept_to a b c flag site input small asked.fit.0 asked.fit.1.0
+div_s_kept Plain in_place site a b c flag input small asked = kept_to in_place a b c flag site input small asked.fit.0 asked.fit.1.0
+div_s_kept Clamp in_place site a b c flag input small asked = kept_to in_place a b c flag site input small asked.fit.0 asked.fit.1.0
+div_s_kept Flag in_place site a b c flag input small asked = kept_to in_place a b c flag site input small asked.fit.0 asked.fit.1.0

@@ -1,5 +1,5 @@
 -- What the words make of a shift to the left, near and far.
-use Rattle.std.proofs.Common.{◌≡◌, ◌≢◌, ℕ, ◌*◌, ◌^◌, ◌<◌, ◌≤◌, ℤ, pos, negsuc, ◌-ℤ◌, ◌*ℤ◌, ◌≤ℤ◌, ◌<ℤ◌, true, false, not, if◌then◌else◌, ◌⊎◌, inl, inr, List, refl, sym, ap, ◌∙◌, subst, arith, ⊎_elim, pow_pos, pow_mono}
+use Rattle.std.proofs.Common.{◌≡◌, ◌≢◌, ℕ, ◌*◌, ◌^◌, ◌<◌, ◌≤◌, ℤ, pos, negsuc, ◌-ℤ◌, ◌*ℤ◌, ◌≤ℤ◌, ◌<ℤ◌, true, false, if◌then◌else◌, ◌⊎◌, inl, inr, List, refl, sym, ap, ◌∙◌, subst, arith, ⊎_elim, lit≤, lit<, pow_pos, pow_mono}
 use Rattle.std.specs.Prelude.{FitsSigned}
 use Rattle.std.specs.Int.{w16, w32}
 use Rattle.std.proofs.lemmas.Bool.{cases_Bool}
@@ -11,7 +11,7 @@ use Rattle.template_runs.specs.Values.{added, less, equal, to_left, to_right_sig
 use Rattle.operator_lowering.proofs.Numbers.{less_true, less_false, equal_true, equal_false, kept16, above16, below16, by_range16, kept32, above32, below32, by_range32}
 use Rattle.operator_lowering.proofs.Shifts.{left_exact, left_fits, back_exact, product_of_back, big_positive, big_negative, product_positive, product_negative, short_product, amount_is}
 use Rattle.operator_lowering.proofs.Sums.{low_half, half_within, half_fits, sign_negative, sign_positive}
-use Rattle.operator_lowering.proofs.Trees.{by_test, by_turned, ends_same, ends_kept, ends_changed}
+use Rattle.operator_lowering.proofs.Trees.{Sets, by_clip}
 
 -- ---- the end by the sign
 
@@ -91,7 +91,7 @@ zero_sum : added (pos 0) (pos 0) ≡ pos 0
 unfolding added
 zero_sum = refl
 
-own_sum : (x : ℤ) → FitsSigned w32 x → added x (pos 0) ≡ x
+pub own_sum : (x : ℤ) → FitsSigned w32 x → added x (pos 0) ≡ x
 unfolding added
 own_sum x fits = grind (arith, ints)
 
@@ -105,57 +105,78 @@ at_most_0 x other =
     more : (x : ℤ) → pos 0 ≤ℤ x → x ≢ pos 0 → pos 0 <ℤ x
     more x low other = grind (arith, ints)
 
--- ---- 16 bits
+-- ---- a product by its sign, where the operand is not 0
+
+module _ (x : ℤ) (n : ℕ) where
+  abbrev product : ℤ
+  product = x *ℤ pos (2 ^ n)
+
+  none_left : x ≡ pos 0 → product ≡ pos 0
+  none_left none = ap (λ y. y *ℤ pos (2 ^ n)) none ∙ zero_product (2 ^ n)
+
+  low_sign : pos 0 ≤ℤ x → pos 0 ≤ℤ product
+  low_sign low = product_positive x (2 ^ n) low
+
+  high_sign : x <ℤ pos 0 → product <ℤ pos 0
+  high_sign high = product_negative x (2 ^ n) high (pow_pos n)
+
+-- ---- 16 bits: the low half of a shift tells
+
+abbrev pub check16 : (y kept changed : ℤ) → List ℤ → Final
+check16 y kept changed input = if equal (low_half y) y then Ends (low_half y) kept input else Ends (end16 y) changed input
 
 module _ (x : ℤ) (n : ℕ) (fits : FitsSigned w16 x) where
   abbrev t16 : ℤ
-  t16 = x *ℤ pos (2 ^ n)
+  t16 = product x n
 
   long16 : FitsSigned w32 x
   long16 = grind (arith, ints)
 
   module _ (near : n < 16) where
-    left16 : to_left x (amount_of (pos n)) ≡ t16
-    left16 = ap (to_left x) (amount_is n (omega arith)) ∙ left_exact x n long16 (omega arith) (short_product x n fits near)
+    abbrev y16 : ℤ
+    y16 = to_left x (amount_of (pos n))
 
-    near_kept16 : equal (low_half (to_left x (amount_of (pos n)))) (to_left x (amount_of (pos n))) ≡ true
-        → (low_half (to_left x (amount_of (pos n))) ≡ clip16 t16) × (changes16 t16 ≡ false)
+    left16 : y16 ≡ t16
+    left16 = ap (to_left x) (amount_is n (omega arith)) ∙ left_exact x n long16 (omega arith) (short_product x n fits (omega arith))
+
+    near_kept16 : equal (low_half y16) y16 ≡ true → (low_half y16 ≡ clip16 t16) × (changes16 t16 ≡ false)
     near_kept16 e =
         let same = equal_true _ _ e ∙ left16 in
-        let range = half_fits (to_left x (amount_of (pos n))) (left_fits x (amount_of (pos n))) in
+        let range = half_fits y16 (left_fits x (amount_of (pos n))) in
         let k = kept16 t16 (subst (λ y. negsuc 32767 ≤ℤ y) same range.0) (subst (λ y. y ≤ℤ pos 32767) same range.1) in
         (same ∙ k.0, k.1)
 
-    near_changed16 : equal (low_half (to_left x (amount_of (pos n)))) (to_left x (amount_of (pos n))) ≡ false
-        → (end16 (to_left x (amount_of (pos n))) ≡ clip16 t16) × (changes16 t16 ≡ true)
+    near_changed16 : equal (low_half y16) y16 ≡ false → (end16 y16 ≡ clip16 t16) × (changes16 t16 ≡ true)
     near_changed16 e =
-        clipped16 (to_left x (amount_of (pos n))) t16 (left_fits x (amount_of (pos n))) (subst (λ y. pos 0 ≤ℤ y) left16) (subst (λ y. y <ℤ pos 0) left16)
+        clipped16 y16 t16 (left_fits x (amount_of (pos n))) (subst (λ y. pos 0 ≤ℤ y) left16) (subst (λ y. y <ℤ pos 0) left16)
         (λ low high. equal_false _ _ e (half_within _ (subst (λ y. negsuc 32767 ≤ℤ y) (sym left16) low) (subst (λ y. y ≤ℤ pos 32767) (sym left16) high)))
 
-    abbrev near_tree16 : (kept changed : ℤ) → List ℤ → Final
-    near_tree16 kept changed input = if equal (low_half (to_left x (amount_of (pos n)))) (to_left x (amount_of (pos n))) then Ends (low_half (to_left x (amount_of (pos n)))) kept input else Ends (end16 (to_left x (amount_of (pos n)))) changed input
+    pub near_is16 : (kept changed final : ℤ) (input : List ℤ) → Sets (changes16 t16) kept changed final → check16 y16 kept changed input ≡ Ends (clip16 t16) final input
+    near_is16 kept changed final input sets = by_clip (equal (low_half y16) y16) sets near_kept16 near_changed16
 
-    pub near_clamp16 : (flag : ℤ) (input : List ℤ) → near_tree16 flag flag input ≡ Ends (clip16 t16) flag input
-    near_clamp16 flag input = by_test (equal (low_half (to_left x (amount_of (pos n)))) (to_left x (amount_of (pos n)))) (λ e. ends_same (near_kept16 e).0) (λ e. ends_same (near_changed16 e).0)
-
-    pub near_flag16 : (flag : ℤ) (input : List ℤ) → near_tree16 flag (added (pos 0) (pos 1)) input ≡ Ends (clip16 t16) (if changes16 t16 then pos 1 else flag) input
-    near_flag16 flag input =
-        by_test (equal (low_half (to_left x (amount_of (pos n)))) (to_left x (amount_of (pos n)))) (λ e. let k = near_kept16 e in ends_kept flag (changes16 t16) k.0 k.1) (λ e. let k = near_changed16 e in ends_changed flag (changes16 t16) k.0 k.1)
-
+  -- beyond 16, a shift by 16 keeps 0 alone too
   module _ (far : 16 ≤ n) where
-    power16 : 65536 ≤ 2 ^ n
-    power16 = pow_mono far
+    abbrev z16 : ℤ
+    z16 = to_left x 16
 
-    far_kept16 : equal (added x (pos 0)) (pos 0) ≡ true → (added (pos 0) (pos 0) ≡ clip16 t16) × (changes16 t16 ≡ false)
+    shifted16 : z16 ≡ x *ℤ pos 65536
+    shifted16 = left_exact x 16 long16 (lit< tt) (short_product x 16 fits (lit≤ tt))
+
+    far_kept16 : equal (low_half z16) z16 ≡ true → (low_half z16 ≡ clip16 t16) × (changes16 t16 ≡ false)
     far_kept16 e =
-        let none : x ≡ pos 0 = sym (own_sum x long16) ∙ equal_true _ _ e in
-        let product : t16 ≡ pos 0 = ap (λ y. y *ℤ pos (2 ^ n)) none ∙ zero_product (2 ^ n) in
-        let k = kept16 t16 (subst (λ y. negsuc 32767 ≤ℤ y) (sym product) (grind (arith, ints))) (subst (λ y. y ≤ℤ pos 32767) (sym product) (grind (arith, ints))) in
-        (zero_sum ∙ sym product ∙ k.0, k.1)
+        let same : low_half z16 ≡ x *ℤ pos 65536 = equal_true _ _ e ∙ shifted16 in
+        let range = half_fits z16 (left_fits x 16) in
+        let none : x ≡ pos 0 = only_zero x (subst (λ y. negsuc 32767 ≤ℤ y) same range.0) (subst (λ y. y ≤ℤ pos 32767) same range.1) in
+        let zero_is : t16 ≡ pos 0 = none_left x n none in
+        let k = kept16 t16 (subst (λ y. negsuc 32767 ≤ℤ y) (sym zero_is) (grind (arith, ints))) (subst (λ y. y ≤ℤ pos 32767) (sym zero_is) (grind (arith, ints))) in
+        (same ∙ ap (λ y. y *ℤ pos 65536) none ∙ zero_product 65536 ∙ sym zero_is ∙ k.0, k.1)
+      where
+        only_zero : (x : ℤ) → negsuc 32767 ≤ℤ (x *ℤ pos 65536) → (x *ℤ pos 65536) ≤ℤ pos 32767 → x ≡ pos 0
+        only_zero x low high = grind (arith, ints)
 
     pub outside16 : x ≢ pos 0 → negsuc 32767 ≤ℤ t16 → t16 ≤ℤ pos 32767 → ⊥
     outside16 other low high =
-        ⊎_elim (λ (some : pos 0 <ℤ x). too_great (big_positive x (2 ^ n) 65536 some power16) high) (λ (few : x <ℤ pos 0). too_small (big_negative x (2 ^ n) 65536 few power16) low) (at_most_0 x other)
+        ⊎_elim (λ (some : pos 0 <ℤ x). too_great (big_positive x (2 ^ n) 65536 some (pow_mono far)) high) (λ (few : x <ℤ pos 0). too_small (big_negative x (2 ^ n) 65536 few (pow_mono far)) low) (at_most_0 x other)
       where
         too_great : pos 65536 ≤ℤ t16 → t16 ≤ℤ pos 32767 → ⊥
         too_great big high = grind (arith, ints)
@@ -163,75 +184,84 @@ module _ (x : ℤ) (n : ℕ) (fits : FitsSigned w16 x) where
         too_small : t16 ≤ℤ (pos 0 -ℤ pos 65536) → negsuc 32767 ≤ℤ t16 → ⊥
         too_small big low = grind (arith, ints)
 
-    far_changed16 : equal (added x (pos 0)) (pos 0) ≡ false → (end16 (added x (pos 0)) ≡ clip16 t16) × (changes16 t16 ≡ true)
+    far_changed16 : equal (low_half z16) z16 ≡ false → (end16 z16 ≡ clip16 t16) × (changes16 t16 ≡ true)
     far_changed16 e =
-        let k = clipped16 x t16 long16 (λ low. product_positive x (2 ^ n) low) (λ high. product_negative x (2 ^ n) high (pow_pos n)) (outside16 (λ none. equal_false _ _ e (own_sum x long16 ∙ none))) in
-        (ap end16 (own_sum x long16) ∙ k.0, k.1)
+        clipped16 z16 t16 (left_fits x 16) (λ low. low_sign x n (not_less x (subst (λ y. pos 0 ≤ℤ y) shifted16 low))) (λ high. high_sign x n (is_less x (subst (λ y. y <ℤ pos 0) shifted16 high)))
+        (outside16 (λ none. equal_false _ _ e (stays (shifted16 ∙ ap (λ y. y *ℤ pos 65536) none ∙ zero_product 65536))))
+      where
+        not_less : (x : ℤ) → pos 0 ≤ℤ (x *ℤ pos 65536) → pos 0 ≤ℤ x
+        not_less x low = grind (arith, ints)
 
-    abbrev far_tree16 : (kept changed : ℤ) → List ℤ → Final
-    far_tree16 kept changed input = if not (equal (added x (pos 0)) (pos 0)) then Ends (end16 (added x (pos 0))) changed input else Ends (added (pos 0) (pos 0)) kept input
+        is_less : (x : ℤ) → (x *ℤ pos 65536) <ℤ pos 0 → x <ℤ pos 0
+        is_less x high = grind (arith, ints)
 
-    pub far_clamp16 : (flag : ℤ) (input : List ℤ) → far_tree16 flag flag input ≡ Ends (clip16 t16) flag input
-    far_clamp16 flag input = by_turned (equal (added x (pos 0)) (pos 0)) (λ e. ends_same (far_kept16 e).0) (λ e. ends_same (far_changed16 e).0)
+        stays : z16 ≡ pos 0 → low_half z16 ≡ z16
+        stays zero_is = half_within z16 (subst (λ y. negsuc 32767 ≤ℤ y) (sym zero_is) (grind (arith, ints))) (subst (λ y. y ≤ℤ pos 32767) (sym zero_is) (grind (arith, ints)))
 
-    pub far_flag16 : (flag : ℤ) (input : List ℤ) → far_tree16 flag (added (pos 0) (pos 1)) input ≡ Ends (clip16 t16) (if changes16 t16 then pos 1 else flag) input
-    far_flag16 flag input =
-        by_turned (equal (added x (pos 0)) (pos 0)) (λ e. let k = far_kept16 e in ends_kept flag (changes16 t16) k.0 k.1) (λ e. let k = far_changed16 e in ends_changed flag (changes16 t16) k.0 k.1)
+    pub far_is16 : (kept changed final : ℤ) (input : List ℤ) → Sets (changes16 t16) kept changed final → check16 z16 kept changed input ≡ Ends (clip16 t16) final input
+    far_is16 kept changed final input sets = by_clip (equal (low_half z16) z16) sets far_kept16 far_changed16
 
--- ---- 32 bits
+-- ---- 32 bits: the shift back tells
 
-module _ (x : ℤ) (n : ℕ) (fits : FitsSigned w32 x) where
+none_right : (m : ℕ) → to_right_signed (pos 0) m ≡ pos 0
+unfolding to_right_signed
+none_right m = grind (arith, ints)
+
+-- a register has the operand
+abbrev pub check32 : (operand y : ℤ) (amount : ℕ) (kept changed : ℤ) → List ℤ → Final
+check32 operand y amount kept changed input = if equal (to_right_signed y amount) operand then Ends y kept input else Ends (end32 operand) changed input
+
+module _ (x operand : ℤ) (is : operand ≡ x) (n : ℕ) (fits : FitsSigned w32 x) where
   abbrev t32 : ℤ
-  t32 = x *ℤ pos (2 ^ n)
+  t32 = product x n
 
-  long32 : FitsSigned w32 x
-  long32 = grind (arith, ints)
+  end_of_operand : (negsuc 2147483647 ≤ℤ t32 → t32 ≤ℤ pos 2147483647 → ⊥) → (end32 operand ≡ clip32 t32) × (changes32 t32 ≡ true)
+  end_of_operand outside = let k = clipped32 x t32 fits (low_sign x n) (high_sign x n) outside in (ap end32 is ∙ k.0, k.1)
 
   module _ (near : n < 32) where
-    amount32 : to_right_signed (to_left x (amount_of (pos n))) (amount_of (pos n)) ≡ to_right_signed (to_left x n) n
+    abbrev y32 : ℤ
+    y32 = to_left x (amount_of (pos n))
+
+    abbrev back32 : ℤ
+    back32 = to_right_signed y32 (amount_of (pos n))
+
+    amount32 : back32 ≡ to_right_signed (to_left x n) n
     amount32 = ap (λ m. to_right_signed (to_left x m) m) (amount_is n near)
 
-    near_kept32 : equal (to_right_signed (to_left x (amount_of (pos n))) (amount_of (pos n))) x ≡ true
-        → (added (to_left x (amount_of (pos n))) (pos 0) ≡ clip32 t32) × (changes32 t32 ≡ false)
+    near_kept32 : equal back32 operand ≡ true → (y32 ≡ clip32 t32) × (changes32 t32 ≡ false)
     near_kept32 e =
-        let product = product_of_back (to_left x n) x n (left_fits x n) near (sym amount32 ∙ equal_true _ _ e) in
-        let k = kept32 t32 (lowest t32 product) (highest t32 product) in
-        (own_sum _ (left_fits x (amount_of (pos n))) ∙ ap (to_left x) (amount_is n near) ∙ left_exact x n long32 near product ∙ k.0, k.1)
+        let same = product_of_back (to_left x n) x n (left_fits x n) near (sym amount32 ∙ equal_true _ _ e ∙ is) in
+        let k = kept32 t32 (lowest t32 same) (highest t32 same) in
+        (ap (to_left x) (amount_is n near) ∙ left_exact x n fits near same ∙ k.0, k.1)
 
-    near_changed32 : equal (to_right_signed (to_left x (amount_of (pos n))) (amount_of (pos n))) x ≡ false → (end32 x ≡ clip32 t32) × (changes32 t32 ≡ true)
+    near_changed32 : equal back32 operand ≡ false → (end32 operand ≡ clip32 t32) × (changes32 t32 ≡ true)
     near_changed32 e =
-        clipped32 x t32 long32 (λ low. product_positive x (2 ^ n) low) (λ high. product_negative x (2 ^ n) high (pow_pos n))
-        (λ low high.
-        let product = fits_of low high in
-        equal_false _ _ e (amount32 ∙ ap (λ y. to_right_signed y n) (left_exact x n long32 near product) ∙ back_exact x n))
+        end_of_operand (λ low high. equal_false _ _ e (amount32 ∙ ap (λ y. to_right_signed y n) (left_exact x n fits near (fits_of low high)) ∙ back_exact x n ∙ sym is))
       where
         fits_of : negsuc 2147483647 ≤ℤ t32 → t32 ≤ℤ pos 2147483647 → FitsSigned w32 t32
         fits_of low high = grind (arith, ints)
 
-    abbrev near_tree32 : (kept changed : ℤ) → List ℤ → Final
-    near_tree32 kept changed input = if equal (to_right_signed (to_left x (amount_of (pos n))) (amount_of (pos n))) x then Ends (added (to_left x (amount_of (pos n))) (pos 0)) kept input else Ends (end32 x) changed input
+    pub near_is32 : (kept changed final : ℤ) (input : List ℤ) → Sets (changes32 t32) kept changed final → check32 operand y32 (amount_of (pos n)) kept changed input ≡ Ends (clip32 t32) final input
+    near_is32 kept changed final input sets = by_clip (equal back32 operand) sets near_kept32 near_changed32
 
-    pub near_clamp32 : (flag : ℤ) (input : List ℤ) → near_tree32 flag flag input ≡ Ends (clip32 t32) flag input
-    near_clamp32 flag input = by_test (equal (to_right_signed (to_left x (amount_of (pos n))) (amount_of (pos n))) x) (λ e. ends_same (near_kept32 e).0) (λ e. ends_same (near_changed32 e).0)
-
-    pub near_flag32 : (flag : ℤ) (input : List ℤ) → near_tree32 flag (added (pos 0) (pos 1)) input ≡ Ends (clip32 t32) (if changes32 t32 then pos 1 else flag) input
-    near_flag32 flag input =
-        by_test (equal (to_right_signed (to_left x (amount_of (pos n))) (amount_of (pos n))) x) (λ e. let k = near_kept32 e in ends_kept flag (changes32 t32) k.0 k.1) (λ e. let k = near_changed32 e in ends_changed flag (changes32 t32) k.0 k.1)
-
+  -- beyond 32 the words take 0 for the product
   module _ (far : 32 ≤ n) where
-    power32 : 4294967296 ≤ 2 ^ n
-    power32 = pow_mono far
+    abbrev z32 : ℤ
+    z32 = to_right_signed (added (pos 0) (pos 0)) (amount_of (pos n))
 
-    far_kept32 : equal x (pos 0) ≡ true → (added (pos 0) (pos 0) ≡ clip32 t32) × (changes32 t32 ≡ false)
+    none32 : z32 ≡ pos 0
+    none32 = ap (λ y. to_right_signed y (amount_of (pos n))) zero_sum ∙ none_right (amount_of (pos n))
+
+    far_kept32 : equal z32 operand ≡ true → (added (pos 0) (pos 0) ≡ clip32 t32) × (changes32 t32 ≡ false)
     far_kept32 e =
-        let none : x ≡ pos 0 = equal_true _ _ e in
-        let product : t32 ≡ pos 0 = ap (λ y. y *ℤ pos (2 ^ n)) none ∙ zero_product (2 ^ n) in
-        let k = kept32 t32 (subst (λ y. negsuc 2147483647 ≤ℤ y) (sym product) (grind (arith, ints))) (subst (λ y. y ≤ℤ pos 2147483647) (sym product) (grind (arith, ints))) in
-        (zero_sum ∙ sym product ∙ k.0, k.1)
+        let none : x ≡ pos 0 = sym is ∙ sym (equal_true _ _ e) ∙ none32 in
+        let zero_is : t32 ≡ pos 0 = none_left x n none in
+        let k = kept32 t32 (subst (λ y. negsuc 2147483647 ≤ℤ y) (sym zero_is) (grind (arith, ints))) (subst (λ y. y ≤ℤ pos 2147483647) (sym zero_is) (grind (arith, ints))) in
+        (zero_sum ∙ sym zero_is ∙ k.0, k.1)
 
     pub outside32 : x ≢ pos 0 → negsuc 2147483647 ≤ℤ t32 → t32 ≤ℤ pos 2147483647 → ⊥
     outside32 other low high =
-        ⊎_elim (λ (some : pos 0 <ℤ x). too_great (big_positive x (2 ^ n) 4294967296 some power32) high) (λ (few : x <ℤ pos 0). too_small (big_negative x (2 ^ n) 4294967296 few power32) low) (at_most_0 x other)
+        ⊎_elim (λ (some : pos 0 <ℤ x). too_great (big_positive x (2 ^ n) 4294967296 some (pow_mono far)) high) (λ (few : x <ℤ pos 0). too_small (big_negative x (2 ^ n) 4294967296 few (pow_mono far)) low) (at_most_0 x other)
       where
         too_great : pos 4294967296 ≤ℤ t32 → t32 ≤ℤ pos 2147483647 → ⊥
         too_great big high = grind (arith, ints)
@@ -239,17 +269,8 @@ module _ (x : ℤ) (n : ℕ) (fits : FitsSigned w32 x) where
         too_small : t32 ≤ℤ (pos 0 -ℤ pos 4294967296) → negsuc 2147483647 ≤ℤ t32 → ⊥
         too_small big low = grind (arith, ints)
 
-    far_changed32 : equal x (pos 0) ≡ false → (end32 x ≡ clip32 t32) × (changes32 t32 ≡ true)
-    far_changed32 e =
-        let k = clipped32 x t32 long32 (λ low. product_positive x (2 ^ n) low) (λ high. product_negative x (2 ^ n) high (pow_pos n)) (outside32 (λ none. equal_false _ _ e (none))) in
-        (k.0, k.1)
+    far_changed32 : equal z32 operand ≡ false → (end32 operand ≡ clip32 t32) × (changes32 t32 ≡ true)
+    far_changed32 e = end_of_operand (outside32 (λ none. equal_false _ _ e (none32 ∙ sym (is ∙ none))))
 
-    abbrev far_tree32 : (kept changed : ℤ) → List ℤ → Final
-    far_tree32 kept changed input = if not (equal x (pos 0)) then Ends (end32 x) changed input else Ends (added (pos 0) (pos 0)) kept input
-
-    pub far_clamp32 : (flag : ℤ) (input : List ℤ) → far_tree32 flag flag input ≡ Ends (clip32 t32) flag input
-    far_clamp32 flag input = by_turned (equal x (pos 0)) (λ e. ends_same (far_kept32 e).0) (λ e. ends_same (far_changed32 e).0)
-
-    pub far_flag32 : (flag : ℤ) (input : List ℤ) → far_tree32 flag (added (pos 0) (pos 1)) input ≡ Ends (clip32 t32) (if changes32 t32 then pos 1 else flag) input
-    far_flag32 flag input =
-        by_turned (equal x (pos 0)) (λ e. let k = far_kept32 e in ends_kept flag (changes32 t32) k.0 k.1) (λ e. let k = far_changed32 e in ends_changed flag (changes32 t32) k.0 k.1)
+    pub far_is32 : (kept changed final : ℤ) (input : List ℤ) → Sets (changes32 t32) kept changed final → check32 operand (added (pos 0) (pos 0)) (amount_of (pos n)) kept changed input ≡ Ends (clip32 t32) final input
+    far_is32 kept changed final input sets = by_clip (equal z32 operand) sets far_kept32 far_changed32

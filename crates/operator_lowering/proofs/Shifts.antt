@@ -143,20 +143,20 @@ product_negative x p high some = less (x *ℤ pos p) (big_negative x p 1 high so
     less : (t : ℤ) → t ≤ℤ (pos 0 -ℤ pos 1) → t <ℤ pos 0
     less t e = omega (arith, ints)
 
--- a number of 16 bits, shifted by less than 16, has 32 bits
-pub short_product : (x : ℤ) (k : ℕ) → FitsSigned w16 x → k < 16 → FitsSigned w32 (x *ℤ pos (2 ^ k))
+-- a number of 16 bits, shifted by at most 16, has 32 bits
+pub short_product : (x : ℤ) (k : ℕ) → FitsSigned w16 x → k ≤ 16 → FitsSigned w32 (x *ℤ pos (2 ^ k))
 short_product (pos n) k fits few =
     let small = fits.sfits in
-    let power : 2 ^ k ≤ 32768 = pow_mono (let e : k ≤ 15 = omega arith in e) in
-    let product : n * 2 ^ k ≤ 32767 * 32768 = mul-le n (2 ^ k) 32767 32768 (omega arith) power in
+    let power : 2 ^ k ≤ 65536 = pow_mono few in
+    let product : n * 2 ^ k ≤ 32767 * 65536 = mul-le n (2 ^ k) 32767 65536 (omega arith) power in
     record { sfits = omega arith }
 short_product (negsuc n) k fits few =
     let small = fits.sfits in
-    let power : 2 ^ k ≤ 32768 = pow_mono (let e : k ≤ 15 = omega arith in e) in
-    let product : suc n * 2 ^ k ≤ 32768 * 32768 = mul-le (suc n) (2 ^ k) 32768 32768 (omega arith) power in
+    let power : 2 ^ k ≤ 65536 = pow_mono few in
+    let product : suc n * 2 ^ k ≤ 32768 * 65536 = mul-le (suc n) (2 ^ k) 32768 65536 (omega arith) power in
     of_product (suc n * 2 ^ k) (omega arith)
   where
-    of_product : (t : ℕ) → t ≤ 1073741824 → FitsSigned w32 (neg_ℤ (pos t))
+    of_product : (t : ℕ) → t ≤ 2147483648 → FitsSigned w32 (neg_ℤ (pos t))
     of_product t most = grind (arith, ints)
 
 -- ---- the count in a register

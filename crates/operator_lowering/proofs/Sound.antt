@@ -71,146 +71,160 @@ by_bool P false one other = other
 kept_plain : {P : Type 0} → Kept ≡ Gone → P
 kept_plain {P} e = absurd (let f = e in cc)
 
-operator_sound : (o : Op) (form : Form) (guard : Guard) (site : ℕ) → IsSound (kind.Call o) form guard (site_words (kind.Call o) form guard site)
-operator_sound op.Add Plain guard site = record { fit = refl; short = lit≤ tt; plain = λ e g m. refl }
-operator_sound op.Add Clamp guard site = record { fit = refl; short = lit≤ tt; plain = λ e g m. absurd (let f = e in cc) }
-operator_sound op.Add Flag guard site = record { fit = refl; short = lit≤ tt; plain = λ e g m. absurd (let f = e in cc) }
-operator_sound op.Sub Plain guard site = record { fit = refl; short = lit≤ tt; plain = λ e g m. refl }
-operator_sound op.Sub Clamp guard site = record { fit = refl; short = lit≤ tt; plain = λ e g m. absurd (let f = e in cc) }
-operator_sound op.Sub Flag guard site = record { fit = refl; short = lit≤ tt; plain = λ e g m. absurd (let f = e in cc) }
-operator_sound op.AbsS Plain guard site = record { fit = refl; short = lit≤ tt; plain = λ e g m. refl }
-operator_sound op.AbsS Clamp guard site = record { fit = refl; short = lit≤ tt; plain = λ e g m. absurd (let f = e in cc) }
-operator_sound op.AbsS Flag guard site = record { fit = refl; short = lit≤ tt; plain = λ e g m. absurd (let f = e in cc) }
-operator_sound op.Shl Plain guard site = record { fit = refl; short = lit≤ tt; plain = λ e g m. absurd (let f = m in cc) }
-operator_sound op.Shl Clamp guard site = record { fit = refl; short = lit≤ tt; plain = λ e g m. absurd (let f = e in cc) }
-operator_sound op.Shl Flag guard site = record { fit = refl; short = lit≤ tt; plain = λ e g m. absurd (let f = e in cc) }
-operator_sound op.Shr Plain guard site = record { fit = refl; short = lit≤ tt; plain = λ e g m. absurd (let f = m in cc) }
-operator_sound op.Shr Clamp guard site = record { fit = refl; short = lit≤ tt; plain = λ e g m. absurd (let f = e in cc) }
-operator_sound op.Shr Flag guard site = record { fit = refl; short = lit≤ tt; plain = λ e g m. absurd (let f = e in cc) }
-operator_sound op.ExtractH Plain guard site = record { fit = refl; short = lit≤ tt; plain = λ e g m. refl }
-operator_sound op.ExtractH Clamp guard site = record { fit = refl; short = lit≤ tt; plain = λ e g m. absurd (let f = e in cc) }
-operator_sound op.ExtractH Flag guard site = record { fit = refl; short = lit≤ tt; plain = λ e g m. absurd (let f = e in cc) }
-operator_sound op.ExtractL Plain guard site = record { fit = refl; short = lit≤ tt; plain = λ e g m. refl }
-operator_sound op.ExtractL Clamp guard site = record { fit = refl; short = lit≤ tt; plain = λ e g m. absurd (let f = e in cc) }
-operator_sound op.ExtractL Flag guard site = record { fit = refl; short = lit≤ tt; plain = λ e g m. absurd (let f = e in cc) }
-operator_sound op.Mult Plain guard site = record { fit = refl; short = lit≤ tt; plain = λ e g m. refl }
-operator_sound op.Mult Clamp guard site = record { fit = refl; short = lit≤ tt; plain = λ e g m. absurd (let f = e in cc) }
-operator_sound op.Mult Flag guard site = record { fit = refl; short = lit≤ tt; plain = λ e g m. absurd (let f = e in cc) }
-operator_sound op.LMult Plain guard site = record { fit = refl; short = lit≤ tt; plain = λ e g m. refl }
-operator_sound op.LMult Clamp guard site = record { fit = refl; short = lit≤ tt; plain = λ e g m. absurd (let f = e in cc) }
-operator_sound op.LMult Flag guard site = record { fit = refl; short = lit≤ tt; plain = λ e g m. absurd (let f = e in cc) }
-operator_sound op.Negate Plain guard site = record { fit = refl; short = lit≤ tt; plain = λ e g m. refl }
-operator_sound op.Negate Clamp guard site = record { fit = refl; short = lit≤ tt; plain = λ e g m. absurd (let f = e in cc) }
-operator_sound op.Negate Flag guard site = record { fit = refl; short = lit≤ tt; plain = λ e g m. absurd (let f = e in cc) }
-operator_sound op.Round Plain guard site = record { fit = refl; short = lit≤ tt; plain = λ e g m. refl }
-operator_sound op.Round Clamp guard site = record { fit = refl; short = lit≤ tt; plain = λ e g m. absurd (let f = e in cc) }
-operator_sound op.Round Flag guard site = record { fit = refl; short = lit≤ tt; plain = λ e g m. absurd (let f = e in cc) }
-operator_sound op.LMac Plain guard site = record { fit = refl; short = lit≤ tt; plain = λ e g m. refl }
-operator_sound op.LMac Clamp guard site = record { fit = refl; short = lit≤ tt; plain = λ e g m. absurd (let f = e in cc) }
-operator_sound op.LMac Flag guard site = record { fit = refl; short = lit≤ tt; plain = λ e g m. absurd (let f = e in cc) }
-operator_sound op.LMsu Plain guard site = record { fit = refl; short = lit≤ tt; plain = λ e g m. refl }
-operator_sound op.LMsu Clamp guard site = record { fit = refl; short = lit≤ tt; plain = λ e g m. absurd (let f = e in cc) }
-operator_sound op.LMsu Flag guard site = record { fit = refl; short = lit≤ tt; plain = λ e g m. absurd (let f = e in cc) }
-operator_sound op.MacR Plain guard site = record { fit = refl; short = lit≤ tt; plain = λ e g m. refl }
-operator_sound op.MacR Clamp guard site = record { fit = refl; short = lit≤ tt; plain = λ e g m. absurd (let f = e in cc) }
-operator_sound op.MacR Flag guard site = record { fit = refl; short = lit≤ tt; plain = λ e g m. absurd (let f = e in cc) }
-operator_sound op.MsuR Plain guard site = record { fit = refl; short = lit≤ tt; plain = λ e g m. refl }
-operator_sound op.MsuR Clamp guard site = record { fit = refl; short = lit≤ tt; plain = λ e g m. absurd (let f = e in cc) }
-operator_sound op.MsuR Flag guard site = record { fit = refl; short = lit≤ tt; plain = λ e g m. absurd (let f = e in cc) }
-operator_sound op.LAdd Plain guard site = record { fit = refl; short = lit≤ tt; plain = λ e g m. refl }
-operator_sound op.LAdd Clamp guard site = record { fit = refl; short = lit≤ tt; plain = λ e g m. absurd (let f = e in cc) }
-operator_sound op.LAdd Flag guard site = record { fit = refl; short = lit≤ tt; plain = λ e g m. absurd (let f = e in cc) }
-operator_sound op.LSub Plain guard site = record { fit = refl; short = lit≤ tt; plain = λ e g m. refl }
-operator_sound op.LSub Clamp guard site = record { fit = refl; short = lit≤ tt; plain = λ e g m. absurd (let f = e in cc) }
-operator_sound op.LSub Flag guard site = record { fit = refl; short = lit≤ tt; plain = λ e g m. absurd (let f = e in cc) }
-operator_sound op.LNegate Plain guard site = record { fit = refl; short = lit≤ tt; plain = λ e g m. refl }
-operator_sound op.LNegate Clamp guard site = record { fit = refl; short = lit≤ tt; plain = λ e g m. absurd (let f = e in cc) }
-operator_sound op.LNegate Flag guard site = record { fit = refl; short = lit≤ tt; plain = λ e g m. absurd (let f = e in cc) }
-operator_sound op.MultR Plain guard site = record { fit = refl; short = lit≤ tt; plain = λ e g m. refl }
-operator_sound op.MultR Clamp guard site = record { fit = refl; short = lit≤ tt; plain = λ e g m. absurd (let f = e in cc) }
-operator_sound op.MultR Flag guard site = record { fit = refl; short = lit≤ tt; plain = λ e g m. absurd (let f = e in cc) }
-operator_sound op.LShl Plain guard site = record { fit = refl; short = lit≤ tt; plain = λ e g m. absurd (let f = m in cc) }
-operator_sound op.LShl Clamp guard site = record { fit = refl; short = lit≤ tt; plain = λ e g m. absurd (let f = e in cc) }
-operator_sound op.LShl Flag guard site = record { fit = refl; short = lit≤ tt; plain = λ e g m. absurd (let f = e in cc) }
-operator_sound op.LShr Plain guard site = record { fit = refl; short = lit≤ tt; plain = λ e g m. absurd (let f = m in cc) }
-operator_sound op.LShr Clamp guard site = record { fit = refl; short = lit≤ tt; plain = λ e g m. absurd (let f = e in cc) }
-operator_sound op.LShr Flag guard site = record { fit = refl; short = lit≤ tt; plain = λ e g m. absurd (let f = e in cc) }
-operator_sound op.ShrR Plain guard site = record { fit = refl; short = lit≤ tt; plain = λ e g m. absurd (let f = m in cc) }
-operator_sound op.ShrR Clamp guard site = record { fit = refl; short = lit≤ tt; plain = λ e g m. absurd (let f = e in cc) }
-operator_sound op.ShrR Flag guard site = record { fit = refl; short = lit≤ tt; plain = λ e g m. absurd (let f = e in cc) }
-operator_sound op.LShrR Plain guard site = record { fit = refl; short = lit≤ tt; plain = λ e g m. absurd (let f = m in cc) }
-operator_sound op.LShrR Clamp guard site = record { fit = refl; short = lit≤ tt; plain = λ e g m. absurd (let f = e in cc) }
-operator_sound op.LShrR Flag guard site = record { fit = refl; short = lit≤ tt; plain = λ e g m. absurd (let f = e in cc) }
-operator_sound op.LAbs Plain guard site = record { fit = refl; short = lit≤ tt; plain = λ e g m. refl }
-operator_sound op.LAbs Clamp guard site = record { fit = refl; short = lit≤ tt; plain = λ e g m. absurd (let f = e in cc) }
-operator_sound op.LAbs Flag guard site = record { fit = refl; short = lit≤ tt; plain = λ e g m. absurd (let f = e in cc) }
-operator_sound op.LDepositH Plain guard site = record { fit = refl; short = lit≤ tt; plain = λ e g m. refl }
-operator_sound op.LDepositH Clamp guard site = record { fit = refl; short = lit≤ tt; plain = λ e g m. absurd (let f = e in cc) }
-operator_sound op.LDepositH Flag guard site = record { fit = refl; short = lit≤ tt; plain = λ e g m. absurd (let f = e in cc) }
-operator_sound op.LDepositL Plain guard site = record { fit = refl; short = lit≤ tt; plain = λ e g m. refl }
-operator_sound op.LDepositL Clamp guard site = record { fit = refl; short = lit≤ tt; plain = λ e g m. absurd (let f = e in cc) }
-operator_sound op.LDepositL Flag guard site = record { fit = refl; short = lit≤ tt; plain = λ e g m. absurd (let f = e in cc) }
-operator_sound op.NormS Plain guard site = record { fit = refl; short = lit≤ tt; plain = λ e g m. absurd (let f = m in cc) }
-operator_sound op.NormS Clamp guard site = record { fit = refl; short = lit≤ tt; plain = λ e g m. absurd (let f = e in cc) }
-operator_sound op.NormS Flag guard site = record { fit = refl; short = lit≤ tt; plain = λ e g m. absurd (let f = e in cc) }
-operator_sound op.NormL Plain guard site = record { fit = refl; short = lit≤ tt; plain = λ e g m. absurd (let f = m in cc) }
-operator_sound op.NormL Clamp guard site = record { fit = refl; short = lit≤ tt; plain = λ e g m. absurd (let f = e in cc) }
-operator_sound op.NormL Flag guard site = record { fit = refl; short = lit≤ tt; plain = λ e g m. absurd (let f = e in cc) }
-operator_sound op.DivS Plain Gone site = record { fit = refl; short = lit≤ tt; plain = λ e g m. refl }
-operator_sound op.DivS Clamp Gone site = record { fit = refl; short = lit≤ tt; plain = λ e g m. absurd (let f = e in cc) }
-operator_sound op.DivS Flag Gone site = record { fit = refl; short = lit≤ tt; plain = λ e g m. absurd (let f = e in cc) }
-operator_sound op.DivS form Kept site = record {
+operator_sound : (o : Op) (form : Form) (guard : Guard) (in_place : Bool) (site : ℕ) → IsSound (kind.Call o) form guard (site_words (kind.Call o) form guard in_place site)
+operator_sound op.Add Plain guard in_place site = record { fit = refl; short = lit≤ tt; plain = λ e g m. refl }
+operator_sound op.Add Clamp guard in_place site = record { fit = refl; short = lit≤ tt; plain = λ e g m. absurd (let f = e in cc) }
+operator_sound op.Add Flag guard in_place site = record { fit = refl; short = lit≤ tt; plain = λ e g m. absurd (let f = e in cc) }
+operator_sound op.Sub Plain guard in_place site = record { fit = refl; short = lit≤ tt; plain = λ e g m. refl }
+operator_sound op.Sub Clamp guard in_place site = record { fit = refl; short = lit≤ tt; plain = λ e g m. absurd (let f = e in cc) }
+operator_sound op.Sub Flag guard in_place site = record { fit = refl; short = lit≤ tt; plain = λ e g m. absurd (let f = e in cc) }
+operator_sound op.AbsS Plain guard in_place site = record { fit = refl; short = lit≤ tt; plain = λ e g m. refl }
+operator_sound op.AbsS Clamp guard in_place site = record { fit = refl; short = lit≤ tt; plain = λ e g m. absurd (let f = e in cc) }
+operator_sound op.AbsS Flag guard in_place site = record { fit = refl; short = lit≤ tt; plain = λ e g m. absurd (let f = e in cc) }
+operator_sound op.Shl Plain guard in_place site = record { fit = refl; short = lit≤ tt; plain = λ e g m. absurd (let f = m in cc) }
+operator_sound op.Shl Clamp guard in_place site = record { fit = refl; short = lit≤ tt; plain = λ e g m. absurd (let f = e in cc) }
+operator_sound op.Shl Flag guard in_place site = record { fit = refl; short = lit≤ tt; plain = λ e g m. absurd (let f = e in cc) }
+operator_sound op.Shr Plain guard in_place site = record { fit = refl; short = lit≤ tt; plain = λ e g m. absurd (let f = m in cc) }
+operator_sound op.Shr Clamp guard in_place site = record { fit = refl; short = lit≤ tt; plain = λ e g m. absurd (let f = e in cc) }
+operator_sound op.Shr Flag guard in_place site = record { fit = refl; short = lit≤ tt; plain = λ e g m. absurd (let f = e in cc) }
+operator_sound op.ExtractH Plain guard in_place site = record { fit = refl; short = lit≤ tt; plain = λ e g m. refl }
+operator_sound op.ExtractH Clamp guard in_place site = record { fit = refl; short = lit≤ tt; plain = λ e g m. absurd (let f = e in cc) }
+operator_sound op.ExtractH Flag guard in_place site = record { fit = refl; short = lit≤ tt; plain = λ e g m. absurd (let f = e in cc) }
+operator_sound op.ExtractL Plain guard in_place site = record { fit = refl; short = lit≤ tt; plain = λ e g m. refl }
+operator_sound op.ExtractL Clamp guard in_place site = record { fit = refl; short = lit≤ tt; plain = λ e g m. absurd (let f = e in cc) }
+operator_sound op.ExtractL Flag guard in_place site = record { fit = refl; short = lit≤ tt; plain = λ e g m. absurd (let f = e in cc) }
+operator_sound op.Mult Plain guard in_place site = record { fit = refl; short = lit≤ tt; plain = λ e g m. refl }
+operator_sound op.Mult Clamp guard in_place site = record { fit = refl; short = lit≤ tt; plain = λ e g m. absurd (let f = e in cc) }
+operator_sound op.Mult Flag guard in_place site = record { fit = refl; short = lit≤ tt; plain = λ e g m. absurd (let f = e in cc) }
+operator_sound op.LMult Plain guard in_place site = record { fit = refl; short = lit≤ tt; plain = λ e g m. refl }
+operator_sound op.LMult Clamp guard in_place site = record { fit = refl; short = lit≤ tt; plain = λ e g m. absurd (let f = e in cc) }
+operator_sound op.LMult Flag guard in_place site = record { fit = refl; short = lit≤ tt; plain = λ e g m. absurd (let f = e in cc) }
+operator_sound op.Negate Plain guard in_place site = record { fit = refl; short = lit≤ tt; plain = λ e g m. refl }
+operator_sound op.Negate Clamp guard in_place site = record { fit = refl; short = lit≤ tt; plain = λ e g m. absurd (let f = e in cc) }
+operator_sound op.Negate Flag guard in_place site = record { fit = refl; short = lit≤ tt; plain = λ e g m. absurd (let f = e in cc) }
+operator_sound op.Round Plain guard in_place site = record { fit = refl; short = lit≤ tt; plain = λ e g m. refl }
+operator_sound op.Round Clamp guard in_place site = record { fit = refl; short = lit≤ tt; plain = λ e g m. absurd (let f = e in cc) }
+operator_sound op.Round Flag guard in_place site = record { fit = refl; short = lit≤ tt; plain = λ e g m. absurd (let f = e in cc) }
+operator_sound op.LMac Plain guard in_place site = record { fit = refl; short = lit≤ tt; plain = λ e g m. refl }
+operator_sound op.LMac Clamp guard in_place site = record { fit = refl; short = lit≤ tt; plain = λ e g m. absurd (let f = e in cc) }
+operator_sound op.LMac Flag guard in_place site = record { fit = refl; short = lit≤ tt; plain = λ e g m. absurd (let f = e in cc) }
+operator_sound op.LMsu Plain guard in_place site = record { fit = refl; short = lit≤ tt; plain = λ e g m. refl }
+operator_sound op.LMsu Clamp guard in_place site = record { fit = refl; short = lit≤ tt; plain = λ e g m. absurd (let f = e in cc) }
+operator_sound op.LMsu Flag guard in_place site = record { fit = refl; short = lit≤ tt; plain = λ e g m. absurd (let f = e in cc) }
+operator_sound op.MacR Plain guard in_place site = record { fit = refl; short = lit≤ tt; plain = λ e g m. refl }
+operator_sound op.MacR Clamp guard in_place site = record { fit = refl; short = lit≤ tt; plain = λ e g m. absurd (let f = e in cc) }
+operator_sound op.MacR Flag guard in_place site = record { fit = refl; short = lit≤ tt; plain = λ e g m. absurd (let f = e in cc) }
+operator_sound op.MsuR Plain guard in_place site = record { fit = refl; short = lit≤ tt; plain = λ e g m. refl }
+operator_sound op.MsuR Clamp guard in_place site = record { fit = refl; short = lit≤ tt; plain = λ e g m. absurd (let f = e in cc) }
+operator_sound op.MsuR Flag guard in_place site = record { fit = refl; short = lit≤ tt; plain = λ e g m. absurd (let f = e in cc) }
+operator_sound op.LAdd Plain guard in_place site = record { fit = refl; short = lit≤ tt; plain = λ e g m. refl }
+operator_sound op.LAdd Clamp guard true site = record { fit = refl; short = lit≤ tt; plain = λ e g m. absurd (let f = e in cc) }
+operator_sound op.LAdd Clamp guard false site = record { fit = refl; short = lit≤ tt; plain = λ e g m. absurd (let f = e in cc) }
+operator_sound op.LAdd Flag guard true site = record { fit = refl; short = lit≤ tt; plain = λ e g m. absurd (let f = e in cc) }
+operator_sound op.LAdd Flag guard false site = record { fit = refl; short = lit≤ tt; plain = λ e g m. absurd (let f = e in cc) }
+operator_sound op.LSub Plain guard in_place site = record { fit = refl; short = lit≤ tt; plain = λ e g m. refl }
+operator_sound op.LSub Clamp guard true site = record { fit = refl; short = lit≤ tt; plain = λ e g m. absurd (let f = e in cc) }
+operator_sound op.LSub Clamp guard false site = record { fit = refl; short = lit≤ tt; plain = λ e g m. absurd (let f = e in cc) }
+operator_sound op.LSub Flag guard true site = record { fit = refl; short = lit≤ tt; plain = λ e g m. absurd (let f = e in cc) }
+operator_sound op.LSub Flag guard false site = record { fit = refl; short = lit≤ tt; plain = λ e g m. absurd (let f = e in cc) }
+operator_sound op.LNegate Plain guard in_place site = record { fit = refl; short = lit≤ tt; plain = λ e g m. refl }
+operator_sound op.LNegate Clamp guard in_place site = record { fit = refl; short = lit≤ tt; plain = λ e g m. absurd (let f = e in cc) }
+operator_sound op.LNegate Flag guard in_place site = record { fit = refl; short = lit≤ tt; plain = λ e g m. absurd (let f = e in cc) }
+operator_sound op.MultR Plain guard in_place site = record { fit = refl; short = lit≤ tt; plain = λ e g m. refl }
+operator_sound op.MultR Clamp guard in_place site = record { fit = refl; short = lit≤ tt; plain = λ e g m. absurd (let f = e in cc) }
+operator_sound op.MultR Flag guard in_place site = record { fit = refl; short = lit≤ tt; plain = λ e g m. absurd (let f = e in cc) }
+operator_sound op.LShl Plain guard in_place site = record { fit = refl; short = lit≤ tt; plain = λ e g m. absurd (let f = m in cc) }
+operator_sound op.LShl Clamp guard in_place site = record { fit = refl; short = lit≤ tt; plain = λ e g m. absurd (let f = e in cc) }
+operator_sound op.LShl Flag guard in_place site = record { fit = refl; short = lit≤ tt; plain = λ e g m. absurd (let f = e in cc) }
+operator_sound op.LShr Plain guard in_place site = record { fit = refl; short = lit≤ tt; plain = λ e g m. absurd (let f = m in cc) }
+operator_sound op.LShr Clamp guard in_place site = record { fit = refl; short = lit≤ tt; plain = λ e g m. absurd (let f = e in cc) }
+operator_sound op.LShr Flag guard in_place site = record { fit = refl; short = lit≤ tt; plain = λ e g m. absurd (let f = e in cc) }
+operator_sound op.ShrR Plain guard in_place site = record { fit = refl; short = lit≤ tt; plain = λ e g m. absurd (let f = m in cc) }
+operator_sound op.ShrR Clamp guard in_place site = record { fit = refl; short = lit≤ tt; plain = λ e g m. absurd (let f = e in cc) }
+operator_sound op.ShrR Flag guard in_place site = record { fit = refl; short = lit≤ tt; plain = λ e g m. absurd (let f = e in cc) }
+operator_sound op.LShrR Plain guard in_place site = record { fit = refl; short = lit≤ tt; plain = λ e g m. absurd (let f = m in cc) }
+operator_sound op.LShrR Clamp guard in_place site = record { fit = refl; short = lit≤ tt; plain = λ e g m. absurd (let f = e in cc) }
+operator_sound op.LShrR Flag guard in_place site = record { fit = refl; short = lit≤ tt; plain = λ e g m. absurd (let f = e in cc) }
+operator_sound op.LAbs Plain guard in_place site = record { fit = refl; short = lit≤ tt; plain = λ e g m. refl }
+operator_sound op.LAbs Clamp guard in_place site = record { fit = refl; short = lit≤ tt; plain = λ e g m. absurd (let f = e in cc) }
+operator_sound op.LAbs Flag guard in_place site = record { fit = refl; short = lit≤ tt; plain = λ e g m. absurd (let f = e in cc) }
+operator_sound op.LDepositH Plain guard in_place site = record { fit = refl; short = lit≤ tt; plain = λ e g m. refl }
+operator_sound op.LDepositH Clamp guard in_place site = record { fit = refl; short = lit≤ tt; plain = λ e g m. absurd (let f = e in cc) }
+operator_sound op.LDepositH Flag guard in_place site = record { fit = refl; short = lit≤ tt; plain = λ e g m. absurd (let f = e in cc) }
+operator_sound op.LDepositL Plain guard in_place site = record { fit = refl; short = lit≤ tt; plain = λ e g m. refl }
+operator_sound op.LDepositL Clamp guard in_place site = record { fit = refl; short = lit≤ tt; plain = λ e g m. absurd (let f = e in cc) }
+operator_sound op.LDepositL Flag guard in_place site = record { fit = refl; short = lit≤ tt; plain = λ e g m. absurd (let f = e in cc) }
+operator_sound op.NormS Plain guard in_place site = record { fit = refl; short = lit≤ tt; plain = λ e g m. absurd (let f = m in cc) }
+operator_sound op.NormS Clamp guard in_place site = record { fit = refl; short = lit≤ tt; plain = λ e g m. absurd (let f = e in cc) }
+operator_sound op.NormS Flag guard in_place site = record { fit = refl; short = lit≤ tt; plain = λ e g m. absurd (let f = e in cc) }
+operator_sound op.NormL Plain guard in_place site = record { fit = refl; short = lit≤ tt; plain = λ e g m. absurd (let f = m in cc) }
+operator_sound op.NormL Clamp guard in_place site = record { fit = refl; short = lit≤ tt; plain = λ e g m. absurd (let f = e in cc) }
+operator_sound op.NormL Flag guard in_place site = record { fit = refl; short = lit≤ tt; plain = λ e g m. absurd (let f = e in cc) }
+operator_sound op.DivS Plain Gone in_place site = record { fit = refl; short = lit≤ tt; plain = λ e g m. refl }
+operator_sound op.DivS Clamp Gone in_place site = record { fit = refl; short = lit≤ tt; plain = λ e g m. absurd (let f = e in cc) }
+operator_sound op.DivS Flag Gone in_place site = record { fit = refl; short = lit≤ tt; plain = λ e g m. absurd (let f = e in cc) }
+operator_sound op.DivS form Kept in_place site = record {
   fit = fit_append (checked_by (is_small site) quotient_check site) DIVIDE (checked_fit quotient_check site refl refl (is_small site) refl) refl;
   short = by_bool (λ b. length (checked_by b quotient_check site ++ DIVIDE) ≤ 90) (is_small site) (lit≤ tt) (lit≤ tt);
   plain = λ e g m. kept_plain g;
 }
 
-pub sound : (k : SiteKind) (form : Form) (guard : Guard) (site : ℕ) → IsSound k form guard (site_words k form guard site)
-sound (kind.Call o) form guard site = operator_sound o form guard site
-sound kind.Sum form Gone site = record { fit = refl; short = lit≤ tt; plain = λ e g m. refl }
-sound kind.Sum form Kept site = record {
-  fit = checked_fit sum_check site refl refl (is_small site) refl;
-  short = by_bool (λ b. length (checked_by b sum_check site) ≤ 90) (is_small site) (lit≤ tt) (lit≤ tt);
+pub sound : (k : SiteKind) (form : Form) (guard : Guard) (in_place : Bool) (site : ℕ) → IsSound k form guard (site_words k form guard in_place site)
+sound (kind.Call o) form guard in_place site = operator_sound o form guard in_place site
+sound kind.Sum form Gone in_place site = record { fit = refl; short = lit≤ tt; plain = λ e g m. refl }
+sound kind.Sum form Kept true site = record {
+  fit = checked_fit (sum_check true) site refl refl (is_small site) refl;
+  short = by_bool (λ b. length (checked_by b (sum_check true) site) ≤ 90) (is_small site) (lit≤ tt) (lit≤ tt);
   plain = λ e g m. kept_plain g;
 }
-sound kind.Difference form Gone site = record { fit = refl; short = lit≤ tt; plain = λ e g m. refl }
-sound kind.Difference form Kept site = record {
-  fit = checked_fit difference_check site refl refl (is_small site) refl;
-  short = by_bool (λ b. length (checked_by b difference_check site) ≤ 90) (is_small site) (lit≤ tt) (lit≤ tt);
+sound kind.Sum form Kept false site = record {
+  fit = checked_fit (sum_check false) site refl refl (is_small site) refl;
+  short = by_bool (λ b. length (checked_by b (sum_check false) site) ≤ 90) (is_small site) (lit≤ tt) (lit≤ tt);
   plain = λ e g m. kept_plain g;
 }
-sound kind.Product form Gone site = record { fit = refl; short = lit≤ tt; plain = λ e g m. refl }
-sound kind.Product form Kept site = record {
+sound kind.Difference form Gone in_place site = record { fit = refl; short = lit≤ tt; plain = λ e g m. refl }
+sound kind.Difference form Kept true site = record {
+  fit = checked_fit (difference_check true) site refl refl (is_small site) refl;
+  short = by_bool (λ b. length (checked_by b (difference_check true) site) ≤ 90) (is_small site) (lit≤ tt) (lit≤ tt);
+  plain = λ e g m. kept_plain g;
+}
+sound kind.Difference form Kept false site = record {
+  fit = checked_fit (difference_check false) site refl refl (is_small site) refl;
+  short = by_bool (λ b. length (checked_by b (difference_check false) site) ≤ 90) (is_small site) (lit≤ tt) (lit≤ tt);
+  plain = λ e g m. kept_plain g;
+}
+sound kind.Product form Gone in_place site = record { fit = refl; short = lit≤ tt; plain = λ e g m. refl }
+sound kind.Product form Kept in_place site = record {
   fit = checked_fit product_check site refl refl (is_small site) refl;
   short = by_bool (λ b. length (checked_by b product_check site) ≤ 90) (is_small site) (lit≤ tt) (lit≤ tt);
   plain = λ e g m. kept_plain g;
 }
-sound kind.Opposite form Gone site = record { fit = refl; short = lit≤ tt; plain = λ e g m. refl }
-sound kind.Opposite form Kept site = record {
+sound kind.Opposite form Gone in_place site = record { fit = refl; short = lit≤ tt; plain = λ e g m. refl }
+sound kind.Opposite form Kept in_place site = record {
   fit = fit_append (checked_by (is_small site) opposite_check site) NEGATE_PLAIN (checked_fit opposite_check site refl refl (is_small site) refl) refl;
   short = by_bool (λ b. length (checked_by b opposite_check site ++ NEGATE_PLAIN) ≤ 90) (is_small site) (lit≤ tt) (lit≤ tt);
   plain = λ e g m. kept_plain g;
 }
-sound kind.ViewBound form Gone site = record { fit = refl; short = lit≤ tt; plain = λ e g m. refl }
-sound kind.ViewBound form Kept site = record {
+sound kind.ViewBound form Gone in_place site = record { fit = refl; short = lit≤ tt; plain = λ e g m. refl }
+sound kind.ViewBound form Kept in_place site = record {
   fit = checked_fit view_check site refl refl (is_small site) refl;
   short = by_bool (λ b. length (checked_by b view_check site) ≤ 90) (is_small site) (lit≤ tt) (lit≤ tt);
   plain = λ e g m. kept_plain g;
 }
-sound kind.ViewEdge form Gone site = record { fit = refl; short = lit≤ tt; plain = λ e g m. refl }
-sound kind.ViewEdge form Kept site = record {
+sound kind.ViewEdge form Gone in_place site = record { fit = refl; short = lit≤ tt; plain = λ e g m. refl }
+sound kind.ViewEdge form Kept in_place site = record {
   fit = checked_fit edge_check site refl refl (is_small site) refl;
   short = by_bool (λ b. length (checked_by b edge_check site) ≤ 90) (is_small site) (lit≤ tt) (lit≤ tt);
   plain = λ e g m. kept_plain g;
 }
-sound kind.Sample form Gone site = record { fit = refl; short = lit≤ tt; plain = λ e g m. refl }
-sound kind.Sample form Kept site = record {
+sound kind.Sample form Gone in_place site = record { fit = refl; short = lit≤ tt; plain = λ e g m. refl }
+sound kind.Sample form Kept in_place site = record {
   fit = fit_append (checked_by (is_small site) sample_check site) sample_words (checked_fit sample_check site refl refl (is_small site) refl) refl;
   short = by_bool (λ b. length (checked_by b sample_check site ++ sample_words) ≤ 90) (is_small site) (lit≤ tt) (lit≤ tt);
   plain = λ e g m. kept_plain g;
 }
-sound (kind.Bound bound) form Gone site = record { fit = refl; short = lit≤ tt; plain = λ e g m. refl }
-sound (kind.Bound bound) form Kept site =
+sound (kind.Bound bound) form Gone in_place site = record { fit = refl; short = lit≤ tt; plain = λ e g m. refl }
+sound (kind.Bound bound) form Kept in_place site =
     let n = bound_of bound in
     record {
       fit =
@@ -221,91 +235,95 @@ sound (kind.Bound bound) form Kept site =
       plain = λ e g m. kept_plain g;
     }
 
-pub operator_fit : (o : Op) (form : Form) → (are_fit (operator_words o form) ≡ true) × (length (operator_words o form) ≤ 90)
-operator_fit op.Add Plain = (refl, lit≤ tt)
-operator_fit op.Add Clamp = (refl, lit≤ tt)
-operator_fit op.Add Flag = (refl, lit≤ tt)
-operator_fit op.Sub Plain = (refl, lit≤ tt)
-operator_fit op.Sub Clamp = (refl, lit≤ tt)
-operator_fit op.Sub Flag = (refl, lit≤ tt)
-operator_fit op.AbsS Plain = (refl, lit≤ tt)
-operator_fit op.AbsS Clamp = (refl, lit≤ tt)
-operator_fit op.AbsS Flag = (refl, lit≤ tt)
-operator_fit op.Shl Plain = (refl, lit≤ tt)
-operator_fit op.Shl Clamp = (refl, lit≤ tt)
-operator_fit op.Shl Flag = (refl, lit≤ tt)
-operator_fit op.Shr Plain = (refl, lit≤ tt)
-operator_fit op.Shr Clamp = (refl, lit≤ tt)
-operator_fit op.Shr Flag = (refl, lit≤ tt)
-operator_fit op.ExtractH Plain = (refl, lit≤ tt)
-operator_fit op.ExtractH Clamp = (refl, lit≤ tt)
-operator_fit op.ExtractH Flag = (refl, lit≤ tt)
-operator_fit op.ExtractL Plain = (refl, lit≤ tt)
-operator_fit op.ExtractL Clamp = (refl, lit≤ tt)
-operator_fit op.ExtractL Flag = (refl, lit≤ tt)
-operator_fit op.Mult Plain = (refl, lit≤ tt)
-operator_fit op.Mult Clamp = (refl, lit≤ tt)
-operator_fit op.Mult Flag = (refl, lit≤ tt)
-operator_fit op.LMult Plain = (refl, lit≤ tt)
-operator_fit op.LMult Clamp = (refl, lit≤ tt)
-operator_fit op.LMult Flag = (refl, lit≤ tt)
-operator_fit op.Negate Plain = (refl, lit≤ tt)
-operator_fit op.Negate Clamp = (refl, lit≤ tt)
-operator_fit op.Negate Flag = (refl, lit≤ tt)
-operator_fit op.Round Plain = (refl, lit≤ tt)
-operator_fit op.Round Clamp = (refl, lit≤ tt)
-operator_fit op.Round Flag = (refl, lit≤ tt)
-operator_fit op.LMac Plain = (refl, lit≤ tt)
-operator_fit op.LMac Clamp = (refl, lit≤ tt)
-operator_fit op.LMac Flag = (refl, lit≤ tt)
-operator_fit op.LMsu Plain = (refl, lit≤ tt)
-operator_fit op.LMsu Clamp = (refl, lit≤ tt)
-operator_fit op.LMsu Flag = (refl, lit≤ tt)
-operator_fit op.MacR Plain = (refl, lit≤ tt)
-operator_fit op.MacR Clamp = (refl, lit≤ tt)
-operator_fit op.MacR Flag = (refl, lit≤ tt)
-operator_fit op.MsuR Plain = (refl, lit≤ tt)
-operator_fit op.MsuR Clamp = (refl, lit≤ tt)
-operator_fit op.MsuR Flag = (refl, lit≤ tt)
-operator_fit op.LAdd Plain = (refl, lit≤ tt)
-operator_fit op.LAdd Clamp = (refl, lit≤ tt)
-operator_fit op.LAdd Flag = (refl, lit≤ tt)
-operator_fit op.LSub Plain = (refl, lit≤ tt)
-operator_fit op.LSub Clamp = (refl, lit≤ tt)
-operator_fit op.LSub Flag = (refl, lit≤ tt)
-operator_fit op.LNegate Plain = (refl, lit≤ tt)
-operator_fit op.LNegate Clamp = (refl, lit≤ tt)
-operator_fit op.LNegate Flag = (refl, lit≤ tt)
-operator_fit op.MultR Plain = (refl, lit≤ tt)
-operator_fit op.MultR Clamp = (refl, lit≤ tt)
-operator_fit op.MultR Flag = (refl, lit≤ tt)
-operator_fit op.LShl Plain = (refl, lit≤ tt)
-operator_fit op.LShl Clamp = (refl, lit≤ tt)
-operator_fit op.LShl Flag = (refl, lit≤ tt)
-operator_fit op.LShr Plain = (refl, lit≤ tt)
-operator_fit op.LShr Clamp = (refl, lit≤ tt)
-operator_fit op.LShr Flag = (refl, lit≤ tt)
-operator_fit op.ShrR Plain = (refl, lit≤ tt)
-operator_fit op.ShrR Clamp = (refl, lit≤ tt)
-operator_fit op.ShrR Flag = (refl, lit≤ tt)
-operator_fit op.LShrR Plain = (refl, lit≤ tt)
-operator_fit op.LShrR Clamp = (refl, lit≤ tt)
-operator_fit op.LShrR Flag = (refl, lit≤ tt)
-operator_fit op.LAbs Plain = (refl, lit≤ tt)
-operator_fit op.LAbs Clamp = (refl, lit≤ tt)
-operator_fit op.LAbs Flag = (refl, lit≤ tt)
-operator_fit op.LDepositH Plain = (refl, lit≤ tt)
-operator_fit op.LDepositH Clamp = (refl, lit≤ tt)
-operator_fit op.LDepositH Flag = (refl, lit≤ tt)
-operator_fit op.LDepositL Plain = (refl, lit≤ tt)
-operator_fit op.LDepositL Clamp = (refl, lit≤ tt)
-operator_fit op.LDepositL Flag = (refl, lit≤ tt)
-operator_fit op.NormS Plain = (refl, lit≤ tt)
-operator_fit op.NormS Clamp = (refl, lit≤ tt)
-operator_fit op.NormS Flag = (refl, lit≤ tt)
-operator_fit op.NormL Plain = (refl, lit≤ tt)
-operator_fit op.NormL Clamp = (refl, lit≤ tt)
-operator_fit op.NormL Flag = (refl, lit≤ tt)
-operator_fit op.DivS Plain = (refl, lit≤ tt)
-operator_fit op.DivS Clamp = (refl, lit≤ tt)
-operator_fit op.DivS Flag = (refl, lit≤ tt)
+pub operator_fit : (o : Op) (form : Form) (in_place : Bool) → (are_fit (operator_words o form in_place) ≡ true) × (length (operator_words o form in_place) ≤ 90)
+operator_fit op.Add Plain in_place = (refl, lit≤ tt)
+operator_fit op.Add Clamp in_place = (refl, lit≤ tt)
+operator_fit op.Add Flag in_place = (refl, lit≤ tt)
+operator_fit op.Sub Plain in_place = (refl, lit≤ tt)
+operator_fit op.Sub Clamp in_place = (refl, lit≤ tt)
+operator_fit op.Sub Flag in_place = (refl, lit≤ tt)
+operator_fit op.AbsS Plain in_place = (refl, lit≤ tt)
+operator_fit op.AbsS Clamp in_place = (refl, lit≤ tt)
+operator_fit op.AbsS Flag in_place = (refl, lit≤ tt)
+operator_fit op.Shl Plain in_place = (refl, lit≤ tt)
+operator_fit op.Shl Clamp in_place = (refl, lit≤ tt)
+operator_fit op.Shl Flag in_place = (refl, lit≤ tt)
+operator_fit op.Shr Plain in_place = (refl, lit≤ tt)
+operator_fit op.Shr Clamp in_place = (refl, lit≤ tt)
+operator_fit op.Shr Flag in_place = (refl, lit≤ tt)
+operator_fit op.ExtractH Plain in_place = (refl, lit≤ tt)
+operator_fit op.ExtractH Clamp in_place = (refl, lit≤ tt)
+operator_fit op.ExtractH Flag in_place = (refl, lit≤ tt)
+operator_fit op.ExtractL Plain in_place = (refl, lit≤ tt)
+operator_fit op.ExtractL Clamp in_place = (refl, lit≤ tt)
+operator_fit op.ExtractL Flag in_place = (refl, lit≤ tt)
+operator_fit op.Mult Plain in_place = (refl, lit≤ tt)
+operator_fit op.Mult Clamp in_place = (refl, lit≤ tt)
+operator_fit op.Mult Flag in_place = (refl, lit≤ tt)
+operator_fit op.LMult Plain in_place = (refl, lit≤ tt)
+operator_fit op.LMult Clamp in_place = (refl, lit≤ tt)
+operator_fit op.LMult Flag in_place = (refl, lit≤ tt)
+operator_fit op.Negate Plain in_place = (refl, lit≤ tt)
+operator_fit op.Negate Clamp in_place = (refl, lit≤ tt)
+operator_fit op.Negate Flag in_place = (refl, lit≤ tt)
+operator_fit op.Round Plain in_place = (refl, lit≤ tt)
+operator_fit op.Round Clamp in_place = (refl, lit≤ tt)
+operator_fit op.Round Flag in_place = (refl, lit≤ tt)
+operator_fit op.LMac Plain in_place = (refl, lit≤ tt)
+operator_fit op.LMac Clamp in_place = (refl, lit≤ tt)
+operator_fit op.LMac Flag in_place = (refl, lit≤ tt)
+operator_fit op.LMsu Plain in_place = (refl, lit≤ tt)
+operator_fit op.LMsu Clamp in_place = (refl, lit≤ tt)
+operator_fit op.LMsu Flag in_place = (refl, lit≤ tt)
+operator_fit op.MacR Plain in_place = (refl, lit≤ tt)
+operator_fit op.MacR Clamp in_place = (refl, lit≤ tt)
+operator_fit op.MacR Flag in_place = (refl, lit≤ tt)
+operator_fit op.MsuR Plain in_place = (refl, lit≤ tt)
+operator_fit op.MsuR Clamp in_place = (refl, lit≤ tt)
+operator_fit op.MsuR Flag in_place = (refl, lit≤ tt)
+operator_fit op.LAdd Plain in_place = (refl, lit≤ tt)
+operator_fit op.LAdd Clamp true = (refl, lit≤ tt)
+operator_fit op.LAdd Clamp false = (refl, lit≤ tt)
+operator_fit op.LAdd Flag true = (refl, lit≤ tt)
+operator_fit op.LAdd Flag false = (refl, lit≤ tt)
+operator_fit op.LSub Plain in_place = (refl, lit≤ tt)
+operator_fit op.LSub Clamp true = (refl, lit≤ tt)
+operator_fit op.LSub Clamp false = (refl, lit≤ tt)
+operator_fit op.LSub Flag true = (refl, lit≤ tt)
+operator_fit op.LSub Flag false = (refl, lit≤ tt)
+operator_fit op.LNegate Plain in_place = (refl, lit≤ tt)
+operator_fit op.LNegate Clamp in_place = (refl, lit≤ tt)
+operator_fit op.LNegate Flag in_place = (refl, lit≤ tt)
+operator_fit op.MultR Plain in_place = (refl, lit≤ tt)
+operator_fit op.MultR Clamp in_place = (refl, lit≤ tt)
+operator_fit op.MultR Flag in_place = (refl, lit≤ tt)
+operator_fit op.LShl Plain in_place = (refl, lit≤ tt)
+operator_fit op.LShl Clamp in_place = (refl, lit≤ tt)
+operator_fit op.LShl Flag in_place = (refl, lit≤ tt)
+operator_fit op.LShr Plain in_place = (refl, lit≤ tt)
+operator_fit op.LShr Clamp in_place = (refl, lit≤ tt)
+operator_fit op.LShr Flag in_place = (refl, lit≤ tt)
+operator_fit op.ShrR Plain in_place = (refl, lit≤ tt)
+operator_fit op.ShrR Clamp in_place = (refl, lit≤ tt)
+operator_fit op.ShrR Flag in_place = (refl, lit≤ tt)
+operator_fit op.LShrR Plain in_place = (refl, lit≤ tt)
+operator_fit op.LShrR Clamp in_place = (refl, lit≤ tt)
+operator_fit op.LShrR Flag in_place = (refl, lit≤ tt)
+operator_fit op.LAbs Plain in_place = (refl, lit≤ tt)
+operator_fit op.LAbs Clamp in_place = (refl, lit≤ tt)
+operator_fit op.LAbs Flag in_place = (refl, lit≤ tt)
+operator_fit op.LDepositH Plain in_place = (refl, lit≤ tt)
+operator_fit op.LDepositH Clamp in_place = (refl, lit≤ tt)
+operator_fit op.LDepositH Flag in_place = (refl, lit≤ tt)
+operator_fit op.LDepositL Plain in_place = (refl, lit≤ tt)
+operator_fit op.LDepositL Clamp in_place = (refl, lit≤ tt)
+operator_fit op.LDepositL Flag in_place = (refl, lit≤ tt)
+operator_fit op.NormS Plain in_place = (refl, lit≤ tt)
+operator_fit op.NormS Clamp in_place = (refl, lit≤ tt)
+operator_fit op.NormS Flag in_place = (refl, lit≤ tt)
+operator_fit op.NormL Plain in_place = (refl, lit≤ tt)
+operator_fit op.NormL Clamp in_place = (refl, lit≤ tt)
+operator_fit op.NormL Flag in_place = (refl, lit≤ tt)
+operator_fit op.DivS Plain in_place = (refl, lit≤ tt)
+operator_fit op.DivS Clamp in_place = (refl, lit≤ tt)
+operator_fit op.DivS Flag in_place = (refl, lit≤ tt)

@@ -47,17 +47,28 @@ module _ (a b : ℤ) (fits_a : FitsSigned w32 a) (fits_b : FitsSigned w32 b) whe
       wrapped (a +ℤ b) s (added_wraps a b fits_a fits_b) (λ inside is. grind (arith, ints))
 
 pub l_add : (form : Form) (guard : Guard) → IsCourse (Call op.LAdd) form guard
-l_add Plain guard site a b c flag input small asked =
+l_add Plain guard in_place site a b c flag input small asked =
     let fits = asked.fit in
     let range = range_of_kept32 (a +ℤ b) (asked.unclipped refl) in
     let k = kept32 (a +ℤ b) range.0 range.1 in
     ends_same (added_within a b fits.0 fits.1.0 range.0 range.1 ∙ k.0)
-l_add Clamp guard site a b c flag input small asked =
+l_add Clamp guard true site a b c flag input small asked =
     let fits = asked.fit in
     by_test (less b (pos 0))
     (λ sign. by_test (less (added a b) a) (λ t. ends_same (down_exact a b fits.0 fits.1.0 sign t).0) (λ t. ends_same (down_wrapped a b fits.0 fits.1.0 sign t).0))
     (λ sign. by_turned (less (added a b) a) (λ t. ends_same (up_wrapped a b fits.0 fits.1.0 sign t).0) (λ t. ends_same (up_exact a b fits.0 fits.1.0 sign t).0))
-l_add Flag guard site a b c flag input small asked =
+l_add Clamp guard false site a b c flag input small asked =
+    let fits = asked.fit in
+    by_test (less b (pos 0))
+    (λ sign. by_test (less (added a b) a) (λ t. ends_same (down_exact a b fits.0 fits.1.0 sign t).0) (λ t. ends_same (down_wrapped a b fits.0 fits.1.0 sign t).0))
+    (λ sign. by_turned (less (added a b) a) (λ t. ends_same (up_wrapped a b fits.0 fits.1.0 sign t).0) (λ t. ends_same (up_exact a b fits.0 fits.1.0 sign t).0))
+l_add Flag guard true site a b c flag input small asked =
+    let fits = asked.fit in
+    let clip = changes32 (a +ℤ b) in
+    by_test (less b (pos 0))
+    (λ sign. by_test (less (added a b) a) (λ t. let k = down_exact a b fits.0 fits.1.0 sign t in ends_kept flag clip k.0 k.1) (λ t. let k = down_wrapped a b fits.0 fits.1.0 sign t in ends_changed flag clip k.0 k.1))
+    (λ sign. by_turned (less (added a b) a) (λ t. let k = up_wrapped a b fits.0 fits.1.0 sign t in ends_changed flag clip k.0 k.1) (λ t. let k = up_exact a b fits.0 fits.1.0 sign t in ends_kept flag clip k.0 k.1))
+l_add Flag guard false site a b c flag input small asked =
     let fits = asked.fit in
     let clip = changes32 (a +ℤ b) in
     by_test (less b (pos 0))
@@ -95,17 +106,28 @@ module _ (a b : ℤ) (fits_a : FitsSigned w32 a) (fits_b : FitsSigned w32 b) whe
       wrapped (a -ℤ b) d (taken_wraps a b fits_a fits_b) (λ inside is. grind (arith, ints))
 
 pub l_sub : (form : Form) (guard : Guard) → IsCourse (Call op.LSub) form guard
-l_sub Plain guard site a b c flag input small asked =
+l_sub Plain guard in_place site a b c flag input small asked =
     let fits = asked.fit in
     let range = range_of_kept32 (a -ℤ b) (asked.unclipped refl) in
     let k = kept32 (a -ℤ b) range.0 range.1 in
     ends_same (taken_within a b fits.0 fits.1.0 range.0 range.1 ∙ k.0)
-l_sub Clamp guard site a b c flag input small asked =
+l_sub Clamp guard true site a b c flag input small asked =
     let fits = asked.fit in
     by_test (less b (pos 0))
     (λ sign. by_test (less a (taken a b)) (λ t. ends_same (up_by a b fits.0 fits.1.0 sign t).0) (λ t. ends_same (up_past a b fits.0 fits.1.0 sign t).0))
     (λ sign. by_turned (less a (taken a b)) (λ t. ends_same (down_past a b fits.0 fits.1.0 sign t).0) (λ t. ends_same (down_by a b fits.0 fits.1.0 sign t).0))
-l_sub Flag guard site a b c flag input small asked =
+l_sub Clamp guard false site a b c flag input small asked =
+    let fits = asked.fit in
+    by_test (less b (pos 0))
+    (λ sign. by_test (less a (taken a b)) (λ t. ends_same (up_by a b fits.0 fits.1.0 sign t).0) (λ t. ends_same (up_past a b fits.0 fits.1.0 sign t).0))
+    (λ sign. by_turned (less a (taken a b)) (λ t. ends_same (down_past a b fits.0 fits.1.0 sign t).0) (λ t. ends_same (down_by a b fits.0 fits.1.0 sign t).0))
+l_sub Flag guard true site a b c flag input small asked =
+    let fits = asked.fit in
+    let clip = changes32 (a -ℤ b) in
+    by_test (less b (pos 0))
+    (λ sign. by_test (less a (taken a b)) (λ t. let k = up_by a b fits.0 fits.1.0 sign t in ends_kept flag clip k.0 k.1) (λ t. let k = up_past a b fits.0 fits.1.0 sign t in ends_changed flag clip k.0 k.1))
+    (λ sign. by_turned (less a (taken a b)) (λ t. let k = down_past a b fits.0 fits.1.0 sign t in ends_changed flag clip k.0 k.1) (λ t. let k = down_by a b fits.0 fits.1.0 sign t in ends_kept flag clip k.0 k.1))
+l_sub Flag guard false site a b c flag input small asked =
     let fits = asked.fit in
     let clip = changes32 (a -ℤ b) in
     by_test (less b (pos 0))
@@ -163,16 +185,16 @@ unfolding taken
 difference_of_shorts a b fits_a fits_b = (grind (arith, ints), grind (arith, ints), grind (arith, ints))
 
 pub add : (form : Form) (guard : Guard) → IsCourse (Call op.Add) form guard
-add Plain guard site a b c flag input small asked =
+add Plain guard in_place site a b c flag input small asked =
     let fits = asked.fit in
     let is = sum_of_shorts a b fits.0 fits.1.0 in
     let range = range_of_kept16 (a +ℤ b) (asked.unclipped refl) in
     ends_same (is.0 ∙ (kept16 (a +ℤ b) range.0 range.1).0)
-add Clamp guard site a b c flag input small asked =
+add Clamp guard in_place site a b c flag input small asked =
     let fits = asked.fit in
     let is = sum_of_shorts a b fits.0 fits.1.0 in
     by_test (equal (low_half (added a b)) (added a b)) (λ e. ends_same (same_half (a +ℤ b) (added a b) is.0 is.1 is.2 e).0) (λ e. ends_same (other_half (a +ℤ b) (added a b) is.0 is.1 is.2 e).0)
-add Flag guard site a b c flag input small asked =
+add Flag guard in_place site a b c flag input small asked =
     let fits = asked.fit in
     let is = sum_of_shorts a b fits.0 fits.1.0 in
     let clip = changes16 (a +ℤ b) in
@@ -180,16 +202,16 @@ add Flag guard site a b c flag input small asked =
     (λ e. let k = other_half (a +ℤ b) (added a b) is.0 is.1 is.2 e in ends_changed flag clip k.0 k.1)
 
 pub sub : (form : Form) (guard : Guard) → IsCourse (Call op.Sub) form guard
-sub Plain guard site a b c flag input small asked =
+sub Plain guard in_place site a b c flag input small asked =
     let fits = asked.fit in
     let is = difference_of_shorts a b fits.0 fits.1.0 in
     let range = range_of_kept16 (a -ℤ b) (asked.unclipped refl) in
     ends_same (is.0 ∙ (kept16 (a -ℤ b) range.0 range.1).0)
-sub Clamp guard site a b c flag input small asked =
+sub Clamp guard in_place site a b c flag input small asked =
     let fits = asked.fit in
     let is = difference_of_shorts a b fits.0 fits.1.0 in
     by_test (equal (low_half (taken a b)) (taken a b)) (λ e. ends_same (same_half (a -ℤ b) (taken a b) is.0 is.1 is.2 e).0) (λ e. ends_same (other_half (a -ℤ b) (taken a b) is.0 is.1 is.2 e).0)
-sub Flag guard site a b c flag input small asked =
+sub Flag guard in_place site a b c flag input small asked =
     let fits = asked.fit in
     let is = difference_of_shorts a b fits.0 fits.1.0 in
     let clip = changes16 (a -ℤ b) in

@@ -27,5 +27,22 @@ pub one : added (pos 0) (pos 1) ≡ pos 1
 unfolding added
 one = refl
 
+-- Overflow after a clip, by whether it changes a number: what it is before, what the words set, and what it becomes
+pub record Sets (changes : Bool) (kept changed final : ℤ) : Type 0 where
+  pub stays : changes ≡ false → kept ≡ final
+  pub turns : changes ≡ true → changed ≡ final
+
+pub silent : (changes : Bool) (flag : ℤ) → Sets changes flag flag flag
+silent changes flag = record { stays = λ e. refl; turns = λ e. refl }
+
+pub flagged : (changes : Bool) (flag : ℤ) → Sets changes flag (added (pos 0) (pos 1)) (if changes then pos 1 else flag)
+flagged changes flag = record { stays = λ e. ap (λ c. if c then pos 1 else flag) (sym e); turns = λ e. one ∙ ap (λ c. if c then pos 1 else flag) (sym e) }
+
+-- a test tells whether the clip changes a number
+pub by_clip : {v w r kept changed final : ℤ} {input : List ℤ} {changes : Bool} (b : Bool) → Sets changes kept changed final
+    → (b ≡ true → (v ≡ r) × (changes ≡ false)) → (b ≡ false → (w ≡ r) × (changes ≡ true)) → (if b then Ends v kept input else Ends w changed input) ≡ Ends r final input
+by_clip true sets on off = let k = on refl in ends k.0 (sets.stays k.1)
+by_clip false sets on off = let k = off refl in ends k.0 (sets.turns k.1)
+
 pub ends_changed : {v v' : ℤ} {input : List ℤ} (flag : ℤ) (changes : Bool) → v ≡ v' → changes ≡ true → Ends v (added (pos 0) (pos 1)) input ≡ Ends v' (if changes then pos 1 else flag) input
 ends_changed flag changes value some = ends value (one ∙ ap (λ c. if c then pos 1 else flag) (sym some))

@@ -13,7 +13,7 @@ use Rattle.template_runs.specs.declared.registers.Registers.{Registers}
 use Rattle.template_runs.specs.Copies.{IsCopied}
 use Rattle.template_runs.specs.Courses.{Final, Ends, Stops, Lost, is_scratch}
 use Rattle.template_runs.specs.Machine.{StandHere, IsBefore, IsFinal, course_of}
-use Rattle.template_runs.specs.Renaming.{AreInRange, IsPlace, renamed, all_over}
+use Rattle.template_runs.specs.Renaming.{AreInRange, AreApart, IsPlace, all_over}
 use Rattle.template_runs.proofs.Copies.{adds_copy}
 use Rattle.template_runs.proofs.Follows.{courses_are_runs}
 
@@ -27,8 +27,8 @@ Done result calls code place words s final = (n : ℕ) × (n ≤ 4096) × IsFina
 abbrev DoneIn : (most result : ℕ) → (calls : Bool) → List ℕ → (place : ℕ) → List Instr → MachineState → Final → Type 0
 DoneIn most result calls code place words s final = (n : ℕ) × (n ≤ most) × IsFinal result calls (place + length words) s (moment_after code n (Running s)) final
 
-straight_in : (regs : Registers) (apart : ℕ) (calls moved : Bool) (words : List Instr) (code : List ℕ) (place : ℕ) (s : MachineState) (final : Final)
-    → AreInRange regs → regs.result ≢ renamed regs apart → (moved ≡ true → regs.result ≡ regs.first) → length words ≤ 90
+straight_in : (regs : Registers) (apart : ℕ → Bool) (calls moved : Bool) (words : List Instr) (code : List ℕ) (place : ℕ) (s : MachineState) (final : Final)
+    → AreInRange regs → AreApart regs apart → (moved ≡ true → regs.result ≡ regs.first) → length words ≤ 90
     → StandHere code place (all_over regs words) → IsBefore place s → course_of regs apart calls moved s words ≡ final
     → DoneIn 4095 regs.result calls code place (all_over regs words) s final
 straight_in regs apart calls moved words code place s final range apart_is moved_is short stands before is =
@@ -41,8 +41,8 @@ straight_in regs apart calls moved words code place s final range apart_is moved
           (subst (IsFinal regs.result calls (place + length words) s (moment_after code run.0 (Running s))) is run.2),
     )
 
-pub straight : (regs : Registers) (apart : ℕ) (calls moved : Bool) (words : List Instr) (code : List ℕ) (place : ℕ) (s : MachineState) (final : Final)
-    → AreInRange regs → regs.result ≢ renamed regs apart → (moved ≡ true → regs.result ≡ regs.first) → length words ≤ 90
+pub straight : (regs : Registers) (apart : ℕ → Bool) (calls moved : Bool) (words : List Instr) (code : List ℕ) (place : ℕ) (s : MachineState) (final : Final)
+    → AreInRange regs → AreApart regs apart → (moved ≡ true → regs.result ≡ regs.first) → length words ≤ 90
     → StandHere code place (all_over regs words) → IsBefore place s → course_of regs apart calls moved s words ≡ final
     → Done regs.result calls code place (all_over regs words) s final
 straight regs apart calls moved words code place s final range apart_is moved_is short stands before is =
@@ -76,8 +76,8 @@ after_copy result rd rs calls k end s t at (Ends value flag input) to own copied
 after_copy result rd rs calls k end s t at (Stops site) to own copied there = there ∙ ap (Rattle.rv_encode.specs.State.Over (Rattle.rv_encode.specs.State.Stopped (Rattle.std.specs.Int.cast_unsigned w32 site))) copied.output
 after_copy result rd rs calls k end s t at Lost to own copied there = tt
 
-pub copied_first : (regs : Registers) (rd rs apart : ℕ) (calls moved : Bool) (words : List Instr) (code : List ℕ) (place : ℕ) (s : MachineState) (final : Final)
-    → AreInRange regs → regs.result ≢ renamed regs apart → (moved ≡ true → regs.result ≡ regs.first) → length words ≤ 90
+pub copied_first : (regs : Registers) (rd rs : ℕ) (apart : ℕ → Bool) (calls moved : Bool) (words : List Instr) (code : List ℕ) (place : ℕ) (s : MachineState) (final : Final)
+    → AreInRange regs → AreApart regs apart → (moved ≡ true → regs.result ≡ regs.first) → length words ≤ 90
     → (rd ≡ regs.result) ⊎ (rd ≡ 28) → FitsSigned w32 (register s rs)
     → StandHere code place (Addi rd rs (pos 0) ∷ all_over regs words) → IsBefore place s
     → ((t : MachineState) → IsCopied rd rs (place + 1) s t → course_of regs apart calls moved t words ≡ final)

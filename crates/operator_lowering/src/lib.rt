@@ -1,6 +1,7 @@
 // The words of sites.
 #![tactic(auto)]
 
+mod assembly;
 mod checks;
 pub mod laws;
 pub mod lowering;

@@ -6,11 +6,13 @@ ghost use Rattle.template_runs.specs.Fitting.{are_fit};
 ghost use Rattle.template_runs.specs.Renaming.{AreInRange, all_over};
 ghost use Rattle.operator_meaning.specs.declared.site.Guard.TheVariants.{Kept, Gone};
 ghost use Rattle.operator_lowering.specs.Template.{ArePlaces};
-ghost use Rattle.operator_lowering.specs.Words.{is_small, constant_words, stop_words, stop_size, checked, checked_by, bound_of, bound_check, operator_words, site_words, front, copy};
+ghost use Rattle.operator_lowering.specs.Words.{is_small, constant_words, stop_words, stop_size, checked, checked_by, bound_of, bound_check, operator_words, site_words, is_in_place, front, copy};
 
+use crate::assembly::words;
 use crate::checks::{
-    difference_check, edge_check, is_small, opposite_check, product_check, quotient_check,
-    sample_check, sample_words, stop_size, sum_check, view_check,
+    difference_check, difference_check_in_place, edge_check, is_small, opposite_check,
+    product_check, quotient_check, sample_check, sample_words, stop_size, sum_check,
+    sum_check_in_place, view_check,
 };
 use crate::operators::operator_words;
 use crate::tables::halves::NEGATE_PLAIN;
@@ -25,35 +27,19 @@ use template_runs::Registers;
 use template_runs::registers::RESULT;
 
 impl Words {
-    // A register between becomes a number of 32 bits.
-    fn put_bound(&mut self, regs: Registers, number: u32)
+    // A register becomes a number of 32 bits.
+    fn put_constant(&mut self, regs: Registers, rd: u8, number: u32)
         requires room { length self.old + 2 ≤ 96 }
         requires range { AreInRange regs }
-        ensures { self.new ≡ self.old ++ map encoded (all_over regs (constant_words (is_small number) 5 number)) }
+        requires register { rd < 32 }
+        ensures { self.new ≡ self.old ++ map encoded (all_over regs (constant_words (is_small number) rd number)) }
     {
         if is_small(number) {
-            self.put(
-                regs,
-                &[Instr::Addi {
-                    rd: T0,
-                    rs1: ZERO,
-                    imm: number as i32,
-                }],
-            );
+            self.put(regs, &words![addi rd, ZERO, number as i32]);
         } else {
             let upper = ((u64::from(number) + 2048) / 4096 % 0x10_0000) as u32;
             let lower = ((u64::from(number) + 2048) % 4096) as i32 - 2048;
-            self.put(
-                regs,
-                &[
-                    Instr::Lui { rd: T0, imm: upper },
-                    Instr::Addi {
-                        rd: T0,
-                        rs1: T0,
-                        imm: lower,
-                    },
-                ],
-            );
+            self.put(regs, &words![lui rd, upper; addi rd, rd, lower]);
         }
     }
 
@@ -63,41 +49,8 @@ impl Words {
         requires range { AreInRange regs }
         ensures { self.new ≡ self.old ++ map encoded (all_over regs (stop_words (is_small site) site)) }
     {
-        if is_small(site) {
-            self.put(
-                regs,
-                &[Instr::Addi {
-                    rd: A0,
-                    rs1: ZERO,
-                    imm: site as i32,
-                }],
-            );
-        } else {
-            let upper = ((u64::from(site) + 2048) / 4096 % 0x10_0000) as u32;
-            let lower = ((u64::from(site) + 2048) % 4096) as i32 - 2048;
-            self.put(
-                regs,
-                &[
-                    Instr::Lui { rd: A0, imm: upper },
-                    Instr::Addi {
-                        rd: A0,
-                        rs1: A0,
-                        imm: lower,
-                    },
-                ],
-            );
-        }
-        self.put(
-            regs,
-            &[
-                Instr::Addi {
-                    rd: A7,
-                    rs1: ZERO,
-                    imm: 5,
-                },
-                Instr::Ecall,
-            ],
-        );
+        self.put_constant(regs, A0, site);
+        self.put(regs, &words![addi A7, ZERO, 5; ecall]);
     }
 
     // A check, and the stop over which it jumps.
@@ -117,25 +70,18 @@ impl Words {
         requires range { AreInRange regs }
         ensures { let n = bound_of bound in self.new ≡ self.old ++ map encoded (all_over regs (checked (bound_check (is_small n) n) site)) }
     {
-        self.put_bound(regs, bound.min(0x8000_0000));
+        self.put_constant(regs, T0, bound.min(0x8000_0000));
         let distance = i32::from(stop_size(site)) + 4;
-        self.put(
-            regs,
-            &[Instr::Bltu {
-                rs1: RESULT,
-                rs2: T0,
-                imm: distance,
-            }],
-        );
+        self.put(regs, &words![bltu RESULT, T0, distance]);
         self.put_stop(regs, site);
     }
 
     fn put_operator(&mut self, regs: Registers, op: Op, form: Form)
         requires room { length self.old ≤ 1 }
         requires range { AreInRange regs }
-        ensures { self.new ≡ self.old ++ map encoded (all_over regs (operator_words op form)) }
+        ensures { self.new ≡ self.old ++ map encoded (all_over regs (operator_words op form (is_in_place regs))) }
     {
-        let (first, rest) = operator_words(op, form);
+        let (first, rest) = operator_words(op, form, regs.result == regs.second);
         self.put(regs, first);
         self.put(regs, rest);
     }
@@ -144,16 +90,21 @@ impl Words {
     fn put_kept(&mut self, regs: Registers, kind: SiteKind, form: Form, site: u32)
         requires room { length self.old ≤ 1 }
         requires range { AreInRange regs }
-        ensures { self.new ≡ self.old ++ map encoded (all_over regs (site_words kind form Kept site)) }
+        ensures { self.new ≡ self.old ++ map encoded (all_over regs (site_words kind form Kept (is_in_place regs) site)) }
     {
         let size = stop_size(site);
+        let in_place = regs.result == regs.second;
         match kind {
             SiteKind::Call(Op::DivS) => {
                 self.put_checked(regs, &quotient_check(size), site);
                 self.put(regs, &DIVIDE);
             }
             SiteKind::Call(op) => self.put_operator(regs, op, form),
+            SiteKind::Sum if in_place => self.put_checked(regs, &sum_check_in_place(size), site),
             SiteKind::Sum => self.put_checked(regs, &sum_check(size), site),
+            SiteKind::Difference if in_place => {
+                self.put_checked(regs, &difference_check_in_place(size), site)
+            }
             SiteKind::Difference => self.put_checked(regs, &difference_check(size), site),
             SiteKind::Product => self.put_checked(regs, &product_check(size), site),
             SiteKind::Opposite => {
@@ -174,7 +125,7 @@ impl Words {
     fn put_gone(&mut self, regs: Registers, kind: SiteKind, form: Form)
         requires room { length self.old ≤ 1 }
         requires range { AreInRange regs }
-        ensures { self.new ≡ self.old ++ map encoded (all_over regs (site_words kind form Gone 0)) }
+        ensures { self.new ≡ self.old ++ map encoded (all_over regs (site_words kind form Gone (is_in_place regs) 0)) }
     {
         match kind {
             SiteKind::Call(op) => self.put_operator(regs, op, form),
@@ -197,7 +148,7 @@ impl Words {
     )
         requires room { length self.old ≤ 1 }
         requires range { AreInRange regs }
-        ensures { self.new ≡ self.old ++ map encoded (all_over regs (site_words kind formed.0 formed.1 site)) }
+        ensures { self.new ≡ self.old ++ map encoded (all_over regs (site_words kind formed.0 formed.1 (is_in_place regs) site)) }
     {
         let (form, guard) = formed;
         match guard {
@@ -213,11 +164,7 @@ impl Words {
         ensures { result ≡ map encoded (copy rd rs) }
     {
         let mut words = Words::new();
-        words.push(encode(Instr::Addi {
-            rd,
-            rs1: rs,
-            imm: 0,
-        }));
+        words.push(encode(Instr::addi(rd, rs, 0)));
         words
     }
 
@@ -231,6 +178,9 @@ impl Words {
             Way::Moves if !is_first => Words::copying(regs.result, regs.first),
             Way::KeepsFirst if is_first => Words::copying(KEPT, regs.first),
             Way::KeepsThird if regs.result == regs.third => Words::copying(KEPT, regs.third),
+            Way::KeepsBoth if is_first || regs.result == regs.second => {
+                Words::copying(KEPT, regs.result)
+            }
             Way::Turns if is_first && regs.result == regs.second => {
                 Words::copying(KEPT, regs.first)
             }

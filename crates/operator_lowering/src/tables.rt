@@ -5,7 +5,7 @@ pub(crate) mod clips;
 pub(crate) mod halves;
 pub(crate) mod long_shifts;
 pub(crate) mod norms;
+pub(crate) mod plain_shifts;
 pub(crate) mod products;
-pub(crate) mod rounded_accumulations;
 pub(crate) mod short_shifts;
 pub(crate) mod sums;

@@ -1,7 +1,7 @@
 // Registers that meet.
 
 ghost use Rattle.std.specs.Prelude.{◌≡◌};
-ghost use Rattle.operator_lowering.specs.Words.{by_clip, operator_way, way_of, places};
+ghost use Rattle.operator_lowering.specs.Words.{by_clip, operator_way, way_of, kept_at, places};
 
 use operator_meaning::{Form, Guard, Op, SiteKind};
 use template_runs::Registers;
@@ -20,6 +20,8 @@ pub enum Way {
     KeepsFirst,
     /// The same of the third operand.
     KeepsThird,
+    /// The same of the first two operands.
+    KeepsBoth,
     /// As for the first operand, but that the second may take its part.
     Turns,
 }
@@ -42,6 +44,7 @@ fn operator_way(op: Op, form: Form) -> Way
         Op::LDepositL => Way::Moves,
         Op::LMac | Op::LMsu | Op::LSub => by_clip(Way::KeepsFirst, form),
         Op::LAdd => by_clip(Way::Turns, form),
+        Op::LShl => by_clip(Way::KeepsBoth, form),
         _ => Way::Straight,
     }
 }
@@ -58,6 +61,13 @@ pub(crate) fn way_of(kind: SiteKind, form: Form, guard: Guard) -> Way
         (SiteKind::ViewBound | SiteKind::ViewEdge, Guard::Kept) => Way::KeepsThird,
         _ => Way::Straight,
     }
+}
+
+// The register of an operand, or the one in which it is kept where it lies in the register of the result.
+fn kept_at(written: u8, number: u8) -> u8
+    ensures { result ≡ kept_at written number }
+{
+    if written == number { KEPT } else { number }
 }
 
 impl Way {
@@ -82,6 +92,11 @@ impl Way {
                     regs
                 }
             }
+            Way::KeepsBoth => Registers {
+                first: kept_at(regs.result, regs.first),
+                second: kept_at(regs.result, regs.second),
+                ..regs
+            },
             Way::Turns if is_first && regs.result != regs.second => Registers {
                 first: regs.second,
                 second: regs.first,

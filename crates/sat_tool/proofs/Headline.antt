@@ -6,7 +6,7 @@ use Rattle.image_format.specs.declared.image.Image.{Image}
 use Rattle.image_format.specs.declared.image.SiteEntry.{SiteEntry}
 use Rattle.image_format.specs.ImageBytes.{image_bytes}
 use Rattle.operator_meaning.specs.declared.object.Site.{Site}
-use Rattle.sat_compile.specs.Accepted.{IsAccepted, IsRefused, IsImageOf}
+use Rattle.sat_compile.specs.Accepted.{IsAccepted, IsRefused}
 use Rattle.sat_compile.specs.Causes.{MayShow}
 use Rattle.sat_compile.specs.Promise.{Compiles, AreEntriesOf}
 use Rattle.sat_compile.specs.Source.{Source, Treatment}

@@ -1,9 +1,8 @@
 -- From the steps of `build` to the course of the command.
-use Rattle.std.proofs.Common.{◌≡◌, ℕ, ◌+◌, ◌≤◌, List, [], ◌∷◌, Option, Some, None, Result, Ok, Err, take, sym, ◌∙◌, subst, inl, inr}
+use Rattle.std.proofs.Common.{◌≡◌, ℕ, ◌+◌, ◌≤◌, List, [], Option, Some, None, Result, Ok, Err, take, sym, ◌∙◌, subst, inl, inr}
 use Rattle.sat_base.specs.declared.limits.TheConstants.{SOURCE_BYTES}
 use Rattle.store_io.specs.Outside.{Files, ReadsFile}
 use Rattle.sat_tool.specs.declared.outcome.Outcome.{Outcome}
-use Rattle.sat_tool.specs.declared.outcome.Outcome.TheVariants.{NoMemory}
 use Rattle.sat_tool.specs.Build.{IsUnfit, IsDone}
 use Rattle.sat_tool.specs.Command.{Build}
 use Rattle.sat_tool.specs.Commands.{inputs_of}

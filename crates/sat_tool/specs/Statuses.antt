@@ -1,5 +1,5 @@
 -- The status and the text of what a run comes to.
-use Rattle.std.specs.Prelude.{ℕ, List, Option, Some, None}
+use Rattle.std.specs.Prelude.{ℕ, List, Option, Some}
 use Rattle.sat_tool.specs.declared.outcome.Outcome.{Outcome}
 use Rattle.sat_tool.specs.declared.outcome.Outcome.TheVariants.{Done, Refused, NoCommand, NoMemory, Unusable}
 use Rattle.sat_tool.specs.Lines.{usage_line, memory_line}

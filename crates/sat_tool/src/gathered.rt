@@ -5,7 +5,7 @@ ghost use Rattle.sat_tool.specs.Gathered.{IsRunWithout};
 ghost use Rattle.sat_tool.specs.Run.{IsRun};
 ghost use Rattle.sat_tool.specs.World.{world};
 
-use crate::satc::satc;
+use crate::top_call::satc;
 use std::alloc::Global;
 use std::env;
 use std::io::{self, ErrorKind};

@@ -15,7 +15,7 @@ use Rattle.template_runs.specs.Courses.{Course, Final, Lost, is_scratch, is_call
 use Rattle.template_runs.specs.Parts.{part_of}
 use Rattle.template_runs.specs.Machine.{IsBefore, IsFinal, begun, CoursesAreRuns}
 use Rattle.template_runs.specs.declared.registers.Registers.{Registers}
-use Rattle.template_runs.specs.Renaming.{AreInRange, renamed, over, all_over}
+use Rattle.template_runs.specs.Renaming.{AreInRange, AreApart, renamed, over, all_over}
 use Rattle.template_runs.proofs.Effects.{part_effect}
 use Rattle.template_runs.proofs.Names.{is_named, and_parts}
 use Rattle.template_runs.proofs.Steps.{IsAt, Comes, part_follows}
@@ -123,7 +123,7 @@ module _ (regs : Registers) (range : AreInRange regs) (code : List ℕ) (may : B
 
 -- ---- where it begins
 
-begun_at : (regs : Registers) (apart : ℕ) (may in_place : Bool) (k : ℕ) (s : MachineState) → regs.result ≢ renamed regs apart → (in_place ≡ true → regs.result ≡ regs.first) → IsBefore k s
+begun_at : (regs : Registers) (apart : ℕ → Bool) (may in_place : Bool) (k : ℕ) (s : MachineState) → AreApart regs apart → (in_place ≡ true → regs.result ≡ regs.first) → IsBefore k s
     → IsAt regs (k + 0) s s (begun apart may in_place (register s regs.first) (register s regs.second) (register s regs.third) (register s 27) s.input)
 begun_at regs apart may in_place k s apart_is place before = record {
   pc = before.pc ∙ ap pc_of (let e : k ≡ k + 0 = omega arith in e);

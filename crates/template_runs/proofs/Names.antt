@@ -3,7 +3,7 @@ use Rattle.std.proofs.Common.{◌≡◌, ◌≢◌, ℕ, ◌<◌, ◌≤◌, ◌
 use Rattle.std.proofs.lemmas.Bool.{eqb-true, or_cases}
 use Rattle.template_runs.specs.Courses.{is_shared, is_call, may_be_one, is_free, is_writable}
 use Rattle.template_runs.specs.declared.registers.Registers.{Registers}
-use Rattle.template_runs.specs.Renaming.{AreInRange, renamed}
+use Rattle.template_runs.specs.Renaming.{AreInRange, AreApart, renamed}
 
 -- the registers whose values a course may know: those that a template may write, and x0
 abbrev pub is_named : ℕ → Bool
@@ -59,7 +59,7 @@ why_apart true false c d e f g = absurd (let h = f in cc)
 why_apart false b c d e f g = absurd (let h = e in cc)
 
 -- what a course still knows after a write is in another register
-pub known_apart : (regs : Registers) → AreInRange regs → (apart : ℕ) → regs.result ≢ renamed regs apart → (n rd : ℕ) → is_named n ≡ true → is_writable rd ≡ true → n ≢ rd
+pub known_apart : (regs : Registers) → AreInRange regs → (apart : ℕ → Bool) → AreApart regs apart → (n rd : ℕ) → is_named n ≡ true → is_writable rd ≡ true → n ≢ rd
     → may_be_one apart rd n ≡ false → renamed regs n ≢ renamed regs rd
 known_apart regs range apart apart_is n rd named writable other unshared =
     ⊎_elim
@@ -72,10 +72,10 @@ known_apart regs range apart apart_is n rd named writable other unshared =
     (λ (calls : (is_call rd && is_call n) ≡ true).
     let are = and_parts (is_call rd) (is_call n) calls in
     other (sym (call_stays regs n are.1) ∙ same ∙ call_stays regs rd are.0))
-    (λ (known : ((rd == 8) && (n == apart)) ≡ true).
-    let are = and_parts (rd == 8) (n == apart) known in
-    apart_is (ap (renamed regs) (sym (eqb-true rd 8 are.0)) ∙ sym same ∙ ap (renamed regs) (eqb-true n apart are.1)))
-    (why_apart (is_shared rd) (is_shared n) (is_call rd && is_call n) ((rd == 8) && (n == apart)) rd_shared n_shared unshared))
+    (λ (known : ((rd == 8) && apart n) ≡ true).
+    let are = and_parts (rd == 8) (apart n) known in
+    apart_is n are.1 (ap (renamed regs) (sym (eqb-true rd 8 are.0)) ∙ sym same))
+    (why_apart (is_shared rd) (is_shared n) (is_call rd && is_call n) ((rd == 8) && apart n) rd_shared n_shared unshared))
     (λ (rd_free : is_free rd ≡ true). shared_apart regs range n rd n_shared rd_free)
     (or_cases (is_shared rd) (is_free rd) writable))
     (λ (n_free : is_free n ≡ true).

@@ -16,7 +16,7 @@ use Rattle.template_runs.specs.Courses.{Course, Final, Stops, Lost, Rest, may_be
 use Rattle.template_runs.specs.Parts.{Part, Sets, Jumps, Calls, Other}
 use Rattle.template_runs.specs.Machine.{IsFinal}
 use Rattle.template_runs.specs.declared.registers.Registers.{Registers}
-use Rattle.template_runs.specs.Renaming.{AreInRange, renamed}
+use Rattle.template_runs.specs.Renaming.{AreInRange, AreApart, renamed}
 use Rattle.template_runs.proofs.Effects.{HasEffect}
 use Rattle.template_runs.proofs.Names.{is_named, and_parts, writable_fits, known_apart}
 
@@ -40,7 +40,7 @@ not_same : (n rd : ℕ) → n ≢ rd → (n == rd) ≡ false
 not_same n rd other = ⊎_elim (λ (is : (n == rd) ≡ true). absurd (other (eqb-true n rd is))) (λ no. no) (cases_Bool (n == rd))
 
 -- what is known of another register was known before, and is in another place
-known_before : (known : ℕ → Bool) (apart rd n : ℕ) → n ≢ rd → known_after known apart rd n ≡ true → (known n ≡ true) × ((may_be_one apart rd n) ≡ false)
+known_before : (known apart : ℕ → Bool) (rd n : ℕ) → n ≢ rd → known_after known apart rd n ≡ true → (known n ≡ true) × ((may_be_one apart rd n) ≡ false)
 known_before known apart rd n other now =
     ⊎_elim
     (λ (is : (n == rd) ≡ true). absurd (other (eqb-true n rd is)))
@@ -57,7 +57,7 @@ known_before known apart rd n other now =
 pub record IsAt (regs : Registers) (k : ℕ) (start s : MachineState) (c : Course) : Type 0 where
   pub pc : s.pc ≡ pc_of k
   pub count : length s.registers ≡ 32
-  pub apart : regs.result ≢ renamed regs c.apart
+  pub apart : AreApart regs c.apart
   pub named : (n : ℕ) → c.known n ≡ true → is_named n ≡ true
   pub values : (n : ℕ) → c.known n ≡ true → register s (renamed regs n) ≡ c.value n
   pub others : (n : ℕ) → All (λ w. n ≢ renamed regs w) c.written → register s n ≡ register start n

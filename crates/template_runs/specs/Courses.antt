@@ -6,13 +6,12 @@ use Rattle.rv_encode.specs.declared.instruction.Instr.{Instr}
 use Rattle.rv_encode.specs.Effects.{left_flag}
 use Rattle.template_runs.specs.Parts.{Part, Sets, Jumps, Calls, Other, part_of}
 
--- the values of registers, which of them are known, the number of an operand that does not lie in the register of the
--- result (0: of none is that known), whether x10 and x17 may change, the registers that were written, and the samples
--- that are left
+-- the values of registers, which of them are known, which operands are known not to lie in the register of the result,
+-- whether x10 and x17 may change, the registers that were written, and the samples that are left
 pub record Course : Type 0 where
   pub value : ℕ → ℤ
   pub known : ℕ → Bool
-  pub apart : ℕ
+  pub apart : ℕ → Bool
   pub calls : Bool
   pub written : List ℕ
   pub input : List ℤ
@@ -33,9 +32,9 @@ abbrev pub is_call : ℕ → Bool
 is_call number = (number == 10) || (number == 17)
 
 -- after a write to the first of two registers the value of the second may be another
-abbrev pub may_be_one : (apart rd number : ℕ) → Bool
+abbrev pub may_be_one : (apart : ℕ → Bool) → (rd number : ℕ) → Bool
 may_be_one apart rd number =
-    is_shared rd && is_shared number && not (is_call rd && is_call number) && not ((rd == 8) && (number == apart))
+    is_shared rd && is_shared number && not (is_call rd && is_call number) && not ((rd == 8) && apart number)
 
 -- other registers, which are the same for each site
 abbrev pub is_free : ℕ → Bool
@@ -58,7 +57,7 @@ are_changed calls [] = true
 are_changed calls (number ∷ numbers) = is_changed calls number && are_changed calls numbers
 
 -- what is known after a write: of registers that may be one with it, only that one
-abbrev pub known_after : (ℕ → Bool) → (apart rd : ℕ) → ℕ → Bool
+abbrev pub known_after : (known apart : ℕ → Bool) → (rd : ℕ) → ℕ → Bool
 known_after known apart rd number = (number == rd) || (known number && not (may_be_one apart rd number))
 
 abbrev pub value_after : (ℕ → ℤ) → (rd : ℕ) → ℤ → ℕ → ℤ

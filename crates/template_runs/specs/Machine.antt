@@ -8,7 +8,7 @@ use Rattle.rv_encode.specs.Runs.{pc_of, moment_after, Stand}
 use Rattle.rv_encode.specs.Words.{Fits}
 use Rattle.template_runs.specs.Courses.{Course, Final, Ends, Stops, Lost, is_scratch, is_call, runs}
 use Rattle.template_runs.specs.declared.registers.Registers.{Registers}
-use Rattle.template_runs.specs.Renaming.{AreInRange, renamed, all_over}
+use Rattle.template_runs.specs.Renaming.{AreInRange, AreApart, all_over}
 
 -- instructions stand in the code from the word of this number on, with fields in their ranges
 pub record StandHere (code : List ℕ) (k : ℕ) (instrs : List Instr) : Type 0 where
@@ -43,7 +43,7 @@ IsFinal result calls end s at (Stops site) = at ≡ Over (Stopped (cast_unsigned
 IsFinal result calls end s at Lost = Unit {0}
 
 -- the operands in x11 to x13, Overflow in x27, and x8 where the result is in the place of the first operand
-abbrev pub begun : (apart : ℕ) → (calls in_place : Bool) → (a b c flag : ℤ) → List ℤ → Course
+abbrev pub begun : (apart : ℕ → Bool) → (calls in_place : Bool) → (a b c flag : ℤ) → List ℤ → Course
 begun apart calls in_place a b c flag input = record {
   value = λ n. if n == 8 then a else (if n == 11 then a else (if n == 12 then b else (if n == 13 then c else (if n == 27 then flag else pos 0))));
   known = λ n. (n == 0) || (n == 11) || (n == 12) || (n == 13) || (n == 27) || (in_place && (n == 8));
@@ -54,14 +54,14 @@ begun apart calls in_place a b c flag input = record {
 }
 
 -- the course of a template that begins in this machine
-abbrev pub course_of : Registers → (apart : ℕ) → (calls in_place : Bool) → MachineState → List Instr → Final
+abbrev pub course_of : Registers → (apart : ℕ → Bool) → (calls in_place : Bool) → MachineState → List Instr → Final
 course_of regs apart calls in_place s instrs =
     runs instrs 0 (begun apart calls in_place (register s regs.first) (register s regs.second) (register s regs.third) (register s OVERFLOW) s.input)
 
 -- Where the course of a template ends, the machine comes, in at most as many instructions as there are words. The
--- course may know of one operand that it is apart from the result, and of the first that the result is in its place.
+-- course may know of operands that they are apart from the result, and of the first that the result is in its place.
 abbrev pub CoursesAreRuns : Type 0
-CoursesAreRuns = (regs : Registers) (apart : ℕ) (calls in_place : Bool) (instrs : List Instr) (code : List ℕ) (k : ℕ) (s : MachineState)
-    → AreInRange regs → regs.result ≢ renamed regs apart → (in_place ≡ true → regs.result ≡ regs.first)
+CoursesAreRuns = (regs : Registers) (apart : ℕ → Bool) (calls in_place : Bool) (instrs : List Instr) (code : List ℕ) (k : ℕ) (s : MachineState)
+    → AreInRange regs → AreApart regs apart → (in_place ≡ true → regs.result ≡ regs.first)
     → StandHere code k (all_over regs instrs) → IsBefore k s
     → (n : ℕ) × (n ≤ length instrs) × IsFinal regs.result calls (k + length instrs) s (moment_after code n (Running s)) (course_of regs apart calls in_place s instrs)

@@ -1,5 +1,5 @@
 -- The registers of a template, and those of a site.
-use Rattle.std.specs.Prelude.{ℕ, ◌≡◌, ◌==◌, ◌≤◌, ◌⊎◌, if◌then◌else◌, List, map}
+use Rattle.std.specs.Prelude.{ℕ, ◌≡◌, ◌≢◌, ◌==◌, ◌≤◌, ◌⊎◌, Bool, true, if◌then◌else◌, List, map}
 use Rattle.rv_encode.specs.declared.instruction.Instr.{Instr}
 use Rattle.template_runs.specs.declared.registers.Registers.{Registers}
 use Rattle.rv_encode.specs.declared.instruction.Instr.TheVariants.{Lui, Jal, Beq, Bne, Blt, Bge, Bltu, Bgeu, Addi, Sltiu, Ori, Andi, Slli, Srli, Srai, Add, Sll, Xor, Sub, Sra, Mul, Mulh, Div}
@@ -9,6 +9,10 @@ abbrev pub renamed : Registers → ℕ → ℕ
 renamed regs number =
     if number == 8 then regs.result else
     (if number == 11 then regs.first else (if number == 12 then regs.second else (if number == 13 then regs.third else number)))
+
+-- these operands do not lie in the register of the result
+abbrev pub AreApart : Registers → (apart : ℕ → Bool) → Type 0
+AreApart regs apart = (n : ℕ) → apart n ≡ true → regs.result ≢ renamed regs n
 
 -- an instruction of a template, over the registers of a site
 abbrev pub over : Registers → Instr → Instr

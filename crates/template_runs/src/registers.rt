@@ -27,6 +27,40 @@ pub struct Registers {
     pub third: u8,
 }
 
+// An instruction over other registers, by the fields that instructions of its format have.
+macro_rules! renamed_by {
+    (
+        $registers:expr, $instr:expr;
+        uppers: $($upper:ident),+;
+        branches: $($branch:ident),+;
+        immediates: $($immediate:ident),+;
+        operations: $($operation:ident),+;
+    ) => {
+        match $instr {
+            $(Instr::$upper { rd, imm } => Instr::$upper {
+                rd: $registers.renamed(rd),
+                imm,
+            },)+
+            $(Instr::$branch { rs1, rs2, imm } => Instr::$branch {
+                rs1: $registers.renamed(rs1),
+                rs2: $registers.renamed(rs2),
+                imm,
+            },)+
+            $(Instr::$immediate { rd, rs1, imm } => Instr::$immediate {
+                rd: $registers.renamed(rd),
+                rs1: $registers.renamed(rs1),
+                imm,
+            },)+
+            $(Instr::$operation { rd, rs1, rs2 } => Instr::$operation {
+                rd: $registers.renamed(rd),
+                rs1: $registers.renamed(rs1),
+                rs2: $registers.renamed(rs2),
+            },)+
+            other => other,
+        }
+    };
+}
+
 impl Registers {
     // The register of a site for a register of a template.
     fn renamed(self, number: u8) -> u8
@@ -45,121 +79,11 @@ impl Registers {
     pub fn over(self, instr: Instr) -> Instr
         ensures { result ≡ over self instr }
     {
-        match instr {
-            Instr::Lui { rd, imm } => Instr::Lui {
-                rd: self.renamed(rd),
-                imm,
-            },
-            Instr::Jal { rd, imm } => Instr::Jal {
-                rd: self.renamed(rd),
-                imm,
-            },
-            Instr::Beq { rs1, rs2, imm } => Instr::Beq {
-                rs1: self.renamed(rs1),
-                rs2: self.renamed(rs2),
-                imm,
-            },
-            Instr::Bne { rs1, rs2, imm } => Instr::Bne {
-                rs1: self.renamed(rs1),
-                rs2: self.renamed(rs2),
-                imm,
-            },
-            Instr::Blt { rs1, rs2, imm } => Instr::Blt {
-                rs1: self.renamed(rs1),
-                rs2: self.renamed(rs2),
-                imm,
-            },
-            Instr::Bge { rs1, rs2, imm } => Instr::Bge {
-                rs1: self.renamed(rs1),
-                rs2: self.renamed(rs2),
-                imm,
-            },
-            Instr::Bltu { rs1, rs2, imm } => Instr::Bltu {
-                rs1: self.renamed(rs1),
-                rs2: self.renamed(rs2),
-                imm,
-            },
-            Instr::Bgeu { rs1, rs2, imm } => Instr::Bgeu {
-                rs1: self.renamed(rs1),
-                rs2: self.renamed(rs2),
-                imm,
-            },
-            Instr::Addi { rd, rs1, imm } => Instr::Addi {
-                rd: self.renamed(rd),
-                rs1: self.renamed(rs1),
-                imm,
-            },
-            Instr::Sltiu { rd, rs1, imm } => Instr::Sltiu {
-                rd: self.renamed(rd),
-                rs1: self.renamed(rs1),
-                imm,
-            },
-            Instr::Ori { rd, rs1, imm } => Instr::Ori {
-                rd: self.renamed(rd),
-                rs1: self.renamed(rs1),
-                imm,
-            },
-            Instr::Andi { rd, rs1, imm } => Instr::Andi {
-                rd: self.renamed(rd),
-                rs1: self.renamed(rs1),
-                imm,
-            },
-            Instr::Slli { rd, rs1, imm } => Instr::Slli {
-                rd: self.renamed(rd),
-                rs1: self.renamed(rs1),
-                imm,
-            },
-            Instr::Srli { rd, rs1, imm } => Instr::Srli {
-                rd: self.renamed(rd),
-                rs1: self.renamed(rs1),
-                imm,
-            },
-            Instr::Srai { rd, rs1, imm } => Instr::Srai {
-                rd: self.renamed(rd),
-                rs1: self.renamed(rs1),
-                imm,
-            },
-            Instr::Add { rd, rs1, rs2 } => Instr::Add {
-                rd: self.renamed(rd),
-                rs1: self.renamed(rs1),
-                rs2: self.renamed(rs2),
-            },
-            Instr::Sll { rd, rs1, rs2 } => Instr::Sll {
-                rd: self.renamed(rd),
-                rs1: self.renamed(rs1),
-                rs2: self.renamed(rs2),
-            },
-            Instr::Xor { rd, rs1, rs2 } => Instr::Xor {
-                rd: self.renamed(rd),
-                rs1: self.renamed(rs1),
-                rs2: self.renamed(rs2),
-            },
-            Instr::Sub { rd, rs1, rs2 } => Instr::Sub {
-                rd: self.renamed(rd),
-                rs1: self.renamed(rs1),
-                rs2: self.renamed(rs2),
-            },
-            Instr::Sra { rd, rs1, rs2 } => Instr::Sra {
-                rd: self.renamed(rd),
-                rs1: self.renamed(rs1),
-                rs2: self.renamed(rs2),
-            },
-            Instr::Mul { rd, rs1, rs2 } => Instr::Mul {
-                rd: self.renamed(rd),
-                rs1: self.renamed(rs1),
-                rs2: self.renamed(rs2),
-            },
-            Instr::Mulh { rd, rs1, rs2 } => Instr::Mulh {
-                rd: self.renamed(rd),
-                rs1: self.renamed(rs1),
-                rs2: self.renamed(rs2),
-            },
-            Instr::Div { rd, rs1, rs2 } => Instr::Div {
-                rd: self.renamed(rd),
-                rs1: self.renamed(rs1),
-                rs2: self.renamed(rs2),
-            },
-            other => other,
-        }
+        renamed_by!(self, instr;
+            uppers: Lui, Jal;
+            branches: Beq, Bne, Blt, Bge, Bltu, Bgeu;
+            immediates: Addi, Sltiu, Ori, Andi, Slli, Srli, Srai;
+            operations: Add, Sll, Xor, Sub, Sra, Mul, Mulh, Div;
+        )
     }
 }

@@ -1,407 +1,110 @@
-// Sums with twice a product.
+// Sums with twice a product, and differences.
 
+use crate::assembly::words;
 use rv_encode::Instr;
-use rv_encode::register::{OVERFLOW, T0, T1, ZERO};
+use rv_encode::register::{OVERFLOW, T0, T1, T2, ZERO};
 use template_runs::registers::{FIRST, RESULT, SECOND, THIRD};
 
-// The first operand and twice the product of the others.
-pub(crate) static L_MAC_PLAIN: [Instr; 3] = [
-    Instr::Mul {
-        rd: T0,
-        rs1: SECOND,
-        rs2: THIRD,
-    },
-    Instr::Slli {
-        rd: T1,
-        rs1: T0,
-        imm: 1,
-    },
-    Instr::Add {
-        rd: RESULT,
-        rs1: FIRST,
-        rs2: T1,
-    },
-];
+// The first operand and twice the product of the others, or less it.
+macro_rules! plain {
+    ($name:ident) => {
+        words![
+            mul T0, SECOND, THIRD;
+            slli T1, T0, 1;
+            $name RESULT, FIRST, T1;
+        ]
+    };
+}
 
-// As before, with a clip to 32 bits of twice the product and of the sum. The first operand is read after the result is written.
-pub(crate) static L_MAC_CLAMP: [Instr; 18] = [
-    Instr::Mul {
-        rd: T0,
-        rs1: SECOND,
-        rs2: THIRD,
-    },
-    Instr::Slli {
-        rd: T1,
-        rs1: T0,
-        imm: 1,
-    },
-    Instr::Blt {
-        rs1: T1,
-        rs2: ZERO,
-        imm: 16,
-    },
-    Instr::Add {
-        rd: RESULT,
-        rs1: FIRST,
-        rs2: T1,
-    },
-    Instr::Bge {
-        rs1: RESULT,
-        rs2: FIRST,
-        imm: 56,
-    },
-    Instr::Jal { rd: ZERO, imm: 16 },
-    Instr::Bge {
-        rs1: T0,
-        rs2: ZERO,
-        imm: 28,
-    },
-    Instr::Add {
-        rd: RESULT,
-        rs1: FIRST,
-        rs2: T1,
-    },
-    Instr::Blt {
-        rs1: RESULT,
-        rs2: FIRST,
-        imm: 40,
-    },
-    Instr::Srai {
-        rd: T0,
-        rs1: RESULT,
-        imm: 31,
-    },
-    Instr::Lui {
-        rd: RESULT,
-        imm: 0x80000,
-    },
-    Instr::Xor {
-        rd: RESULT,
-        rs1: RESULT,
-        rs2: T0,
-    },
-    Instr::Jal { rd: ZERO, imm: 24 },
-    Instr::Lui {
-        rd: T1,
-        imm: 0x80000,
-    },
-    Instr::Addi {
-        rd: T1,
-        rs1: T1,
-        imm: -1,
-    },
-    Instr::Add {
-        rd: RESULT,
-        rs1: FIRST,
-        rs2: T1,
-    },
-    Instr::Bge {
-        rs1: ZERO,
-        rs2: FIRST,
-        imm: 8,
-    },
-    Instr::Addi {
-        rd: RESULT,
-        rs1: T1,
-        imm: 0,
-    },
-];
+pub(crate) static L_MAC_PLAIN: [Instr; 3] = plain!(add);
 
-// As before, and where a clip changes a number Overflow is set.
-pub(crate) static L_MAC_FLAG: [Instr; 20] = [
-    Instr::Mul {
-        rd: T0,
-        rs1: SECOND,
-        rs2: THIRD,
-    },
-    Instr::Slli {
-        rd: T1,
-        rs1: T0,
-        imm: 1,
-    },
-    Instr::Blt {
-        rs1: T1,
-        rs2: ZERO,
-        imm: 16,
-    },
-    Instr::Add {
-        rd: RESULT,
-        rs1: FIRST,
-        rs2: T1,
-    },
-    Instr::Bge {
-        rs1: RESULT,
-        rs2: FIRST,
-        imm: 64,
-    },
-    Instr::Jal { rd: ZERO, imm: 16 },
-    Instr::Bge {
-        rs1: T0,
-        rs2: ZERO,
-        imm: 32,
-    },
-    Instr::Add {
-        rd: RESULT,
-        rs1: FIRST,
-        rs2: T1,
-    },
-    Instr::Blt {
-        rs1: RESULT,
-        rs2: FIRST,
-        imm: 48,
-    },
-    Instr::Srai {
-        rd: T0,
-        rs1: RESULT,
-        imm: 31,
-    },
-    Instr::Lui {
-        rd: RESULT,
-        imm: 0x80000,
-    },
-    Instr::Xor {
-        rd: RESULT,
-        rs1: RESULT,
-        rs2: T0,
-    },
-    Instr::Addi {
-        rd: OVERFLOW,
-        rs1: ZERO,
-        imm: 1,
-    },
-    Instr::Jal { rd: ZERO, imm: 28 },
-    Instr::Lui {
-        rd: T1,
-        imm: 0x80000,
-    },
-    Instr::Addi {
-        rd: T1,
-        rs1: T1,
-        imm: -1,
-    },
-    Instr::Addi {
-        rd: OVERFLOW,
-        rs1: ZERO,
-        imm: 1,
-    },
-    Instr::Add {
-        rd: RESULT,
-        rs1: FIRST,
-        rs2: T1,
-    },
-    Instr::Bge {
-        rs1: ZERO,
-        rs2: FIRST,
-        imm: 8,
-    },
-    Instr::Addi {
-        rd: RESULT,
-        rs1: T1,
-        imm: 0,
-    },
-];
+pub(crate) static L_MSU_PLAIN: [Instr; 3] = plain!(sub);
 
-// The first operand less twice the product of the others.
-pub(crate) static L_MSU_PLAIN: [Instr; 3] = [
-    Instr::Mul {
-        rd: T0,
-        rs1: SECOND,
-        rs2: THIRD,
-    },
-    Instr::Slli {
-        rd: T1,
-        rs1: T0,
-        imm: 1,
-    },
-    Instr::Sub {
-        rd: RESULT,
-        rs1: FIRST,
-        rs2: T1,
-    },
-];
+// The same, rounded to its upper half.
+macro_rules! plain_half {
+    ($name:ident) => {
+        words![
+            mul T0, SECOND, THIRD;
+            slli T1, T0, 1;
+            $name T2, FIRST, T1;
+            lui T0, 8;
+            add T1, T2, T0;
+            srai RESULT, T1, 16;
+        ]
+    };
+}
 
-// As before, with a clip to 32 bits of twice the product and of the difference. The first operand is read after the result is written.
-pub(crate) static L_MSU_CLAMP: [Instr; 19] = [
-    Instr::Mul {
-        rd: T0,
-        rs1: SECOND,
-        rs2: THIRD,
-    },
-    Instr::Slli {
-        rd: T1,
-        rs1: T0,
-        imm: 1,
-    },
-    Instr::Blt {
-        rs1: T1,
-        rs2: ZERO,
-        imm: 16,
-    },
-    Instr::Sub {
-        rd: RESULT,
-        rs1: FIRST,
-        rs2: T1,
-    },
-    Instr::Bge {
-        rs1: FIRST,
-        rs2: RESULT,
-        imm: 60,
-    },
-    Instr::Jal { rd: ZERO, imm: 16 },
-    Instr::Bge {
-        rs1: T0,
-        rs2: ZERO,
-        imm: 28,
-    },
-    Instr::Sub {
-        rd: RESULT,
-        rs1: FIRST,
-        rs2: T1,
-    },
-    Instr::Blt {
-        rs1: FIRST,
-        rs2: RESULT,
-        imm: 44,
-    },
-    Instr::Srai {
-        rd: T0,
-        rs1: RESULT,
-        imm: 31,
-    },
-    Instr::Lui {
-        rd: RESULT,
-        imm: 0x80000,
-    },
-    Instr::Xor {
-        rd: RESULT,
-        rs1: RESULT,
-        rs2: T0,
-    },
-    Instr::Jal { rd: ZERO, imm: 28 },
-    Instr::Lui {
-        rd: T1,
-        imm: 0x80000,
-    },
-    Instr::Addi {
-        rd: T1,
-        rs1: T1,
-        imm: -1,
-    },
-    Instr::Sub {
-        rd: RESULT,
-        rs1: FIRST,
-        rs2: T1,
-    },
-    Instr::Addi {
-        rd: T0,
-        rs1: ZERO,
-        imm: -1,
-    },
-    Instr::Bge {
-        rs1: FIRST,
-        rs2: T0,
-        imm: 8,
-    },
-    Instr::Lui {
-        rd: RESULT,
-        imm: 0x80000,
-    },
-];
+pub(crate) static MAC_PLAIN: [Instr; 6] = plain_half!(add);
 
-// As before, and where a clip changes a number Overflow is set.
-pub(crate) static L_MSU_FLAG: [Instr; 21] = [
-    Instr::Mul {
-        rd: T0,
-        rs1: SECOND,
-        rs2: THIRD,
-    },
-    Instr::Slli {
-        rd: T1,
-        rs1: T0,
-        imm: 1,
-    },
-    Instr::Blt {
-        rs1: T1,
-        rs2: ZERO,
-        imm: 16,
-    },
-    Instr::Sub {
-        rd: RESULT,
-        rs1: FIRST,
-        rs2: T1,
-    },
-    Instr::Bge {
-        rs1: FIRST,
-        rs2: RESULT,
-        imm: 68,
-    },
-    Instr::Jal { rd: ZERO, imm: 16 },
-    Instr::Bge {
-        rs1: T0,
-        rs2: ZERO,
-        imm: 32,
-    },
-    Instr::Sub {
-        rd: RESULT,
-        rs1: FIRST,
-        rs2: T1,
-    },
-    Instr::Blt {
-        rs1: FIRST,
-        rs2: RESULT,
-        imm: 52,
-    },
-    Instr::Srai {
-        rd: T0,
-        rs1: RESULT,
-        imm: 31,
-    },
-    Instr::Lui {
-        rd: RESULT,
-        imm: 0x80000,
-    },
-    Instr::Xor {
-        rd: RESULT,
-        rs1: RESULT,
-        rs2: T0,
-    },
-    Instr::Addi {
-        rd: OVERFLOW,
-        rs1: ZERO,
-        imm: 1,
-    },
-    Instr::Jal { rd: ZERO, imm: 32 },
-    Instr::Lui {
-        rd: T1,
-        imm: 0x80000,
-    },
-    Instr::Addi {
-        rd: T1,
-        rs1: T1,
-        imm: -1,
-    },
-    Instr::Addi {
-        rd: OVERFLOW,
-        rs1: ZERO,
-        imm: 1,
-    },
-    Instr::Sub {
-        rd: RESULT,
-        rs1: FIRST,
-        rs2: T1,
-    },
-    Instr::Addi {
-        rd: T0,
-        rs1: ZERO,
-        imm: -1,
-    },
-    Instr::Bge {
-        rs1: FIRST,
-        rs2: T0,
-        imm: 8,
-    },
-    Instr::Lui {
-        rd: RESULT,
-        imm: 0x80000,
-    },
-];
+pub(crate) static MSU_PLAIN: [Instr; 6] = plain_half!(sub);
+
+// The sum, with a clip to 32 bits of twice the product and of the sum. Twice the product is 2^31 alone where it is negative
+// and the product is not. The first operand is read after the sum is written.
+macro_rules! accumulated {
+    ($sum:ident, $size:literal; $($flag:tt)*) => {
+        words![
+            mul T0, SECOND, THIRD;
+            slli T1, T0, 1;
+            add $sum, FIRST, T1;
+            blt T1, ZERO, 12;
+            bge $sum, FIRST, 52 + $size;
+            jal ZERO, 12;
+            bge T0, ZERO, 24;
+            blt $sum, FIRST, 40 + $size;
+            srai T0, $sum, 31;
+            lui $sum, 0x80000;
+            xor $sum, $sum, T0;
+            jal ZERO, 24;
+            lui T1, 0x80000;
+            addi T1, T1, -1;
+            add $sum, FIRST, T1;
+            bge ZERO, FIRST, 8;
+            addi $sum, T1, 0;
+            $($flag)*
+        ]
+    };
+}
+
+pub(crate) static L_MAC_CLAMP: [Instr; 17] = accumulated!(RESULT, 0;);
+
+pub(crate) static L_MAC_FLAG: [Instr; 18] = accumulated!(RESULT, 4; addi OVERFLOW, ZERO, 1;);
+
+pub(crate) static MAC_CLAMP: [Instr; 17] = accumulated!(T2, 0;);
+
+pub(crate) static MAC_FLAG: [Instr; 18] = accumulated!(T2, 4; addi OVERFLOW, ZERO, 1;);
+
+// The difference, with a clip to 32 bits of twice the product and of the difference. The first operand is read after the
+// difference is written.
+macro_rules! reduced {
+    ($difference:ident, $size:literal; $($flag:tt)*) => {
+        words![
+            mul T0, SECOND, THIRD;
+            slli T1, T0, 1;
+            sub $difference, FIRST, T1;
+            blt T1, ZERO, 12;
+            bge FIRST, $difference, 56 + $size;
+            jal ZERO, 12;
+            bge T0, ZERO, 24;
+            blt FIRST, $difference, 44 + $size;
+            srai T0, $difference, 31;
+            lui $difference, 0x80000;
+            xor $difference, $difference, T0;
+            jal ZERO, 28;
+            lui T0, 0x80000;
+            addi T0, T0, -1;
+            sub $difference, FIRST, T0;
+            addi T0, ZERO, -1;
+            bge FIRST, T0, 8;
+            lui $difference, 0x80000;
+            $($flag)*
+        ]
+    };
+}
+
+pub(crate) static L_MSU_CLAMP: [Instr; 18] = reduced!(RESULT, 0;);
+
+pub(crate) static L_MSU_FLAG: [Instr; 19] = reduced!(RESULT, 4; addi OVERFLOW, ZERO, 1;);
+
+pub(crate) static MSU_CLAMP: [Instr; 18] = reduced!(T2, 0;);
+
+pub(crate) static MSU_FLAG: [Instr; 19] = reduced!(T2, 4; addi OVERFLOW, ZERO, 1;);

@@ -1,698 +1,111 @@
-// Shifts of numbers of 32 bits.
+// Shifts of numbers of 32 bits, with their clips. A count of 32 or more shifts out all but 0: the product is then taken as
+// 0, and kept where the operand is 0.
 
+use crate::assembly::words;
 use rv_encode::Instr;
 use rv_encode::register::{OVERFLOW, T0, T1, T2, T4, ZERO};
 use template_runs::registers::{FIRST, RESULT, SECOND};
 
-// A rounded shift to the right, or a shift to the left that loses nothing.
-pub(crate) static L_SHR_R_PLAIN: [Instr; 12] = [
-    Instr::Blt {
-        rs1: ZERO,
-        rs2: SECOND,
-        imm: 16,
-    },
-    Instr::Sub {
-        rd: T2,
-        rs1: ZERO,
-        rs2: SECOND,
-    },
-    Instr::Sll {
-        rd: RESULT,
-        rs1: FIRST,
-        rs2: T2,
-    },
-    Instr::Jal { rd: ZERO, imm: 36 },
-    Instr::Addi {
-        rd: T0,
-        rs1: SECOND,
-        imm: -1,
-    },
-    Instr::Sltiu {
-        rd: T1,
-        rs1: T0,
-        imm: 32,
-    },
-    Instr::Bne {
-        rs1: T1,
-        rs2: ZERO,
-        imm: 8,
-    },
-    Instr::Addi {
-        rd: T0,
-        rs1: ZERO,
-        imm: 31,
-    },
-    Instr::Sra {
-        rd: T0,
-        rs1: FIRST,
-        rs2: T0,
-    },
-    Instr::Andi {
-        rd: T1,
-        rs1: T0,
-        imm: 1,
-    },
-    Instr::Srai {
-        rd: T0,
-        rs1: T0,
-        imm: 1,
-    },
-    Instr::Add {
-        rd: RESULT,
-        rs1: T0,
-        rs2: T1,
-    },
-];
+// Words that shift an operand to the left, of which the last passes over the next one where the count is below 32; the clip
+// to 32 bits, which finds whether the shift back by the count gives the operand, with a hole; and words that follow, past
+// which those that keep the number jump.
+macro_rules! clipped {
+    ([$($before:tt)*] $operand:ident, $count:ident, $past:expr; $($after:tt)*) => {
+        words![
+            $($before)*
+            addi RESULT, ZERO, 0;
+            sra T1, RESULT, $count;
+            beq T1, $operand, 20 + $past;
+            srai T0, $operand, 31;
+            lui RESULT, 0x80000;
+            addi RESULT, RESULT, -1;
+            xor RESULT, RESULT, T0;
+            $($after)*
+        ]
+    };
+}
 
-// A shift to the left with a clip to 32 bits, or to the right.
-pub(crate) static L_SHL_CLAMP: [Instr; 21] = [
-    Instr::Sltiu {
-        rd: T0,
-        rs1: SECOND,
-        imm: 32,
-    },
-    Instr::Bne {
-        rs1: T0,
-        rs2: ZERO,
-        imm: 44,
-    },
-    Instr::Blt {
-        rs1: SECOND,
-        rs2: ZERO,
-        imm: 16,
-    },
-    Instr::Bne {
-        rs1: FIRST,
-        rs2: ZERO,
-        imm: 48,
-    },
-    Instr::Addi {
-        rd: RESULT,
-        rs1: ZERO,
-        imm: 0,
-    },
-    Instr::Jal { rd: ZERO, imm: 64 },
-    Instr::Sub {
-        rd: T0,
-        rs1: ZERO,
-        rs2: SECOND,
-    },
-    Instr::Addi {
-        rd: T1,
-        rs1: ZERO,
-        imm: 31,
-    },
-    Instr::Bgeu {
-        rs1: T1,
-        rs2: T0,
-        imm: 8,
-    },
-    Instr::Addi {
-        rd: T0,
-        rs1: ZERO,
-        imm: 31,
-    },
-    Instr::Sra {
-        rd: RESULT,
-        rs1: FIRST,
-        rs2: T0,
-    },
-    Instr::Jal { rd: ZERO, imm: 40 },
-    Instr::Sll {
-        rd: T4,
-        rs1: FIRST,
-        rs2: SECOND,
-    },
-    Instr::Sra {
-        rd: T1,
-        rs1: T4,
-        rs2: SECOND,
-    },
-    Instr::Beq {
-        rs1: T1,
-        rs2: FIRST,
-        imm: 24,
-    },
-    Instr::Srai {
-        rd: T0,
-        rs1: FIRST,
-        imm: 31,
-    },
-    Instr::Lui {
-        rd: RESULT,
-        imm: 0x80000,
-    },
-    Instr::Addi {
-        rd: RESULT,
-        rs1: RESULT,
-        imm: -1,
-    },
-    Instr::Xor {
-        rd: RESULT,
-        rs1: RESULT,
-        rs2: T0,
-    },
-    Instr::Jal { rd: ZERO, imm: 8 },
-    Instr::Addi {
-        rd: RESULT,
-        rs1: T4,
-        imm: 0,
-    },
-];
+// To the left, or to the right by at most 31. The operands are read after the result is written.
+macro_rules! l_shl {
+    ($size:literal; $($flag:tt)*) => {
+        clipped!(
+            [
+                sltiu T0, SECOND, 32;
+                sll RESULT, FIRST, SECOND;
+                bne T0, ZERO, 12;
+                blt SECOND, ZERO, 36 + $size;
+            ]
+            FIRST, SECOND, 24 + $size;
+            $($flag)*
+            jal ZERO, 24;
+            sub T0, ZERO, SECOND;
+            addi T1, ZERO, 31;
+            bgeu T1, T0, 8;
+            addi T0, ZERO, 31;
+            sra RESULT, FIRST, T0;
+        )
+    };
+}
 
-// As before, and where the clip changes it Overflow is set.
-pub(crate) static L_SHL_FLAG: [Instr; 22] = [
-    Instr::Sltiu {
-        rd: T0,
-        rs1: SECOND,
-        imm: 32,
-    },
-    Instr::Bne {
-        rs1: T0,
-        rs2: ZERO,
-        imm: 44,
-    },
-    Instr::Blt {
-        rs1: SECOND,
-        rs2: ZERO,
-        imm: 16,
-    },
-    Instr::Bne {
-        rs1: FIRST,
-        rs2: ZERO,
-        imm: 48,
-    },
-    Instr::Addi {
-        rd: RESULT,
-        rs1: ZERO,
-        imm: 0,
-    },
-    Instr::Jal { rd: ZERO, imm: 68 },
-    Instr::Sub {
-        rd: T0,
-        rs1: ZERO,
-        rs2: SECOND,
-    },
-    Instr::Addi {
-        rd: T1,
-        rs1: ZERO,
-        imm: 31,
-    },
-    Instr::Bgeu {
-        rs1: T1,
-        rs2: T0,
-        imm: 8,
-    },
-    Instr::Addi {
-        rd: T0,
-        rs1: ZERO,
-        imm: 31,
-    },
-    Instr::Sra {
-        rd: RESULT,
-        rs1: FIRST,
-        rs2: T0,
-    },
-    Instr::Jal { rd: ZERO, imm: 44 },
-    Instr::Sll {
-        rd: T4,
-        rs1: FIRST,
-        rs2: SECOND,
-    },
-    Instr::Sra {
-        rd: T1,
-        rs1: T4,
-        rs2: SECOND,
-    },
-    Instr::Beq {
-        rs1: T1,
-        rs2: FIRST,
-        imm: 28,
-    },
-    Instr::Srai {
-        rd: T0,
-        rs1: FIRST,
-        imm: 31,
-    },
-    Instr::Lui {
-        rd: RESULT,
-        imm: 0x80000,
-    },
-    Instr::Addi {
-        rd: RESULT,
-        rs1: RESULT,
-        imm: -1,
-    },
-    Instr::Xor {
-        rd: RESULT,
-        rs1: RESULT,
-        rs2: T0,
-    },
-    Instr::Addi {
-        rd: OVERFLOW,
-        rs1: ZERO,
-        imm: 1,
-    },
-    Instr::Jal { rd: ZERO, imm: 8 },
-    Instr::Addi {
-        rd: RESULT,
-        rs1: T4,
-        imm: 0,
-    },
-];
+pub(crate) static L_SHL_CLAMP: [Instr; 17] = l_shl!(0;);
 
-// A shift to the right, or to the left with a clip to 32 bits.
-pub(crate) static L_SHR_CLAMP: [Instr; 22] = [
-    Instr::Sltiu {
-        rd: T0,
-        rs1: SECOND,
-        imm: 32,
-    },
-    Instr::Bne {
-        rs1: T0,
-        rs2: ZERO,
-        imm: 80,
-    },
-    Instr::Blt {
-        rs1: SECOND,
-        rs2: ZERO,
-        imm: 12,
-    },
-    Instr::Srai {
-        rd: RESULT,
-        rs1: FIRST,
-        imm: 31,
-    },
-    Instr::Jal { rd: ZERO, imm: 72 },
-    Instr::Sub {
-        rd: T2,
-        rs1: ZERO,
-        rs2: SECOND,
-    },
-    Instr::Sltiu {
-        rd: T0,
-        rs1: T2,
-        imm: 32,
-    },
-    Instr::Bne {
-        rs1: T0,
-        rs2: ZERO,
-        imm: 16,
-    },
-    Instr::Bne {
-        rs1: FIRST,
-        rs2: ZERO,
-        imm: 24,
-    },
-    Instr::Addi {
-        rd: RESULT,
-        rs1: ZERO,
-        imm: 0,
-    },
-    Instr::Jal { rd: ZERO, imm: 48 },
-    Instr::Sll {
-        rd: T4,
-        rs1: FIRST,
-        rs2: T2,
-    },
-    Instr::Sra {
-        rd: T1,
-        rs1: T4,
-        rs2: T2,
-    },
-    Instr::Beq {
-        rs1: T1,
-        rs2: FIRST,
-        imm: 24,
-    },
-    Instr::Srai {
-        rd: T0,
-        rs1: FIRST,
-        imm: 31,
-    },
-    Instr::Lui {
-        rd: RESULT,
-        imm: 0x80000,
-    },
-    Instr::Addi {
-        rd: RESULT,
-        rs1: RESULT,
-        imm: -1,
-    },
-    Instr::Xor {
-        rd: RESULT,
-        rs1: RESULT,
-        rs2: T0,
-    },
-    Instr::Jal { rd: ZERO, imm: 16 },
-    Instr::Addi {
-        rd: RESULT,
-        rs1: T4,
-        imm: 0,
-    },
-    Instr::Jal { rd: ZERO, imm: 8 },
-    Instr::Sra {
-        rd: RESULT,
-        rs1: FIRST,
-        rs2: SECOND,
-    },
-];
+pub(crate) static L_SHL_FLAG: [Instr; 18] = l_shl!(4; addi OVERFLOW, ZERO, 1;);
 
-// As before, and where the clip changes it Overflow is set.
-pub(crate) static L_SHR_FLAG: [Instr; 23] = [
-    Instr::Sltiu {
-        rd: T0,
-        rs1: SECOND,
-        imm: 32,
-    },
-    Instr::Bne {
-        rs1: T0,
-        rs2: ZERO,
-        imm: 84,
-    },
-    Instr::Blt {
-        rs1: SECOND,
-        rs2: ZERO,
-        imm: 12,
-    },
-    Instr::Srai {
-        rd: RESULT,
-        rs1: FIRST,
-        imm: 31,
-    },
-    Instr::Jal { rd: ZERO, imm: 76 },
-    Instr::Sub {
-        rd: T2,
-        rs1: ZERO,
-        rs2: SECOND,
-    },
-    Instr::Sltiu {
-        rd: T0,
-        rs1: T2,
-        imm: 32,
-    },
-    Instr::Bne {
-        rs1: T0,
-        rs2: ZERO,
-        imm: 16,
-    },
-    Instr::Bne {
-        rs1: FIRST,
-        rs2: ZERO,
-        imm: 24,
-    },
-    Instr::Addi {
-        rd: RESULT,
-        rs1: ZERO,
-        imm: 0,
-    },
-    Instr::Jal { rd: ZERO, imm: 52 },
-    Instr::Sll {
-        rd: T4,
-        rs1: FIRST,
-        rs2: T2,
-    },
-    Instr::Sra {
-        rd: T1,
-        rs1: T4,
-        rs2: T2,
-    },
-    Instr::Beq {
-        rs1: T1,
-        rs2: FIRST,
-        imm: 28,
-    },
-    Instr::Srai {
-        rd: T0,
-        rs1: FIRST,
-        imm: 31,
-    },
-    Instr::Lui {
-        rd: RESULT,
-        imm: 0x80000,
-    },
-    Instr::Addi {
-        rd: RESULT,
-        rs1: RESULT,
-        imm: -1,
-    },
-    Instr::Xor {
-        rd: RESULT,
-        rs1: RESULT,
-        rs2: T0,
-    },
-    Instr::Addi {
-        rd: OVERFLOW,
-        rs1: ZERO,
-        imm: 1,
-    },
-    Instr::Jal { rd: ZERO, imm: 16 },
-    Instr::Addi {
-        rd: RESULT,
-        rs1: T4,
-        imm: 0,
-    },
-    Instr::Jal { rd: ZERO, imm: 8 },
-    Instr::Sra {
-        rd: RESULT,
-        rs1: FIRST,
-        rs2: SECOND,
-    },
-];
+// To the right by at most 31, or to the left.
+macro_rules! l_shr {
+    ($size:literal; $($flag:tt)*) => {
+        clipped!(
+            [
+                sltiu T0, SECOND, 32;
+                bne T0, ZERO, 68 + $size;
+                blt SECOND, ZERO, 12;
+                srai RESULT, FIRST, 31;
+                jal ZERO, 60 + $size;
+                sub T2, ZERO, SECOND;
+                sltiu T0, T2, 32;
+                addi T4, FIRST, 0;
+                sll RESULT, FIRST, T2;
+                bne T0, ZERO, 8;
+            ]
+            T4, T2, 8 + $size;
+            $($flag)*
+            jal ZERO, 8;
+            sra RESULT, FIRST, SECOND;
+        )
+    };
+}
 
-// A rounded shift to the right, or a shift to the left with a clip to 32 bits.
-pub(crate) static L_SHR_R_CLAMP: [Instr; 25] = [
-    Instr::Blt {
-        rs1: ZERO,
-        rs2: SECOND,
-        imm: 68,
-    },
-    Instr::Sub {
-        rd: T2,
-        rs1: ZERO,
-        rs2: SECOND,
-    },
-    Instr::Sltiu {
-        rd: T0,
-        rs1: T2,
-        imm: 32,
-    },
-    Instr::Bne {
-        rs1: T0,
-        rs2: ZERO,
-        imm: 16,
-    },
-    Instr::Bne {
-        rs1: FIRST,
-        rs2: ZERO,
-        imm: 24,
-    },
-    Instr::Addi {
-        rd: RESULT,
-        rs1: ZERO,
-        imm: 0,
-    },
-    Instr::Jal { rd: ZERO, imm: 76 },
-    Instr::Sll {
-        rd: T4,
-        rs1: FIRST,
-        rs2: T2,
-    },
-    Instr::Sra {
-        rd: T1,
-        rs1: T4,
-        rs2: T2,
-    },
-    Instr::Beq {
-        rs1: T1,
-        rs2: FIRST,
-        imm: 24,
-    },
-    Instr::Srai {
-        rd: T0,
-        rs1: FIRST,
-        imm: 31,
-    },
-    Instr::Lui {
-        rd: RESULT,
-        imm: 0x80000,
-    },
-    Instr::Addi {
-        rd: RESULT,
-        rs1: RESULT,
-        imm: -1,
-    },
-    Instr::Xor {
-        rd: RESULT,
-        rs1: RESULT,
-        rs2: T0,
-    },
-    Instr::Jal { rd: ZERO, imm: 44 },
-    Instr::Addi {
-        rd: RESULT,
-        rs1: T4,
-        imm: 0,
-    },
-    Instr::Jal { rd: ZERO, imm: 36 },
-    Instr::Addi {
-        rd: T0,
-        rs1: SECOND,
-        imm: -1,
-    },
-    Instr::Sltiu {
-        rd: T1,
-        rs1: T0,
-        imm: 32,
-    },
-    Instr::Bne {
-        rs1: T1,
-        rs2: ZERO,
-        imm: 8,
-    },
-    Instr::Addi {
-        rd: T0,
-        rs1: ZERO,
-        imm: 31,
-    },
-    Instr::Sra {
-        rd: T0,
-        rs1: FIRST,
-        rs2: T0,
-    },
-    Instr::Andi {
-        rd: T1,
-        rs1: T0,
-        imm: 1,
-    },
-    Instr::Srai {
-        rd: T0,
-        rs1: T0,
-        imm: 1,
-    },
-    Instr::Add {
-        rd: RESULT,
-        rs1: T0,
-        rs2: T1,
-    },
-];
+pub(crate) static L_SHR_CLAMP: [Instr; 19] = l_shr!(0;);
 
-// As before, and where the clip changes it Overflow is set.
-pub(crate) static L_SHR_R_FLAG: [Instr; 26] = [
-    Instr::Blt {
-        rs1: ZERO,
-        rs2: SECOND,
-        imm: 72,
-    },
-    Instr::Sub {
-        rd: T2,
-        rs1: ZERO,
-        rs2: SECOND,
-    },
-    Instr::Sltiu {
-        rd: T0,
-        rs1: T2,
-        imm: 32,
-    },
-    Instr::Bne {
-        rs1: T0,
-        rs2: ZERO,
-        imm: 16,
-    },
-    Instr::Bne {
-        rs1: FIRST,
-        rs2: ZERO,
-        imm: 24,
-    },
-    Instr::Addi {
-        rd: RESULT,
-        rs1: ZERO,
-        imm: 0,
-    },
-    Instr::Jal { rd: ZERO, imm: 80 },
-    Instr::Sll {
-        rd: T4,
-        rs1: FIRST,
-        rs2: T2,
-    },
-    Instr::Sra {
-        rd: T1,
-        rs1: T4,
-        rs2: T2,
-    },
-    Instr::Beq {
-        rs1: T1,
-        rs2: FIRST,
-        imm: 28,
-    },
-    Instr::Srai {
-        rd: T0,
-        rs1: FIRST,
-        imm: 31,
-    },
-    Instr::Lui {
-        rd: RESULT,
-        imm: 0x80000,
-    },
-    Instr::Addi {
-        rd: RESULT,
-        rs1: RESULT,
-        imm: -1,
-    },
-    Instr::Xor {
-        rd: RESULT,
-        rs1: RESULT,
-        rs2: T0,
-    },
-    Instr::Addi {
-        rd: OVERFLOW,
-        rs1: ZERO,
-        imm: 1,
-    },
-    Instr::Jal { rd: ZERO, imm: 44 },
-    Instr::Addi {
-        rd: RESULT,
-        rs1: T4,
-        imm: 0,
-    },
-    Instr::Jal { rd: ZERO, imm: 36 },
-    Instr::Addi {
-        rd: T0,
-        rs1: SECOND,
-        imm: -1,
-    },
-    Instr::Sltiu {
-        rd: T1,
-        rs1: T0,
-        imm: 32,
-    },
-    Instr::Bne {
-        rs1: T1,
-        rs2: ZERO,
-        imm: 8,
-    },
-    Instr::Addi {
-        rd: T0,
-        rs1: ZERO,
-        imm: 31,
-    },
-    Instr::Sra {
-        rd: T0,
-        rs1: FIRST,
-        rs2: T0,
-    },
-    Instr::Andi {
-        rd: T1,
-        rs1: T0,
-        imm: 1,
-    },
-    Instr::Srai {
-        rd: T0,
-        rs1: T0,
-        imm: 1,
-    },
-    Instr::Add {
-        rd: RESULT,
-        rs1: T0,
-        rs2: T1,
-    },
-];
+pub(crate) static L_SHR_FLAG: [Instr; 20] = l_shr!(4; addi OVERFLOW, ZERO, 1;);
+
+// To the right, rounded, or to the left.
+macro_rules! l_shr_r {
+    ($size:literal; $($flag:tt)*) => {
+        clipped!(
+            [
+                blt ZERO, SECOND, 56 + $size;
+                sub T2, ZERO, SECOND;
+                sltiu T0, T2, 32;
+                addi T4, FIRST, 0;
+                sll RESULT, FIRST, T2;
+                bne T0, ZERO, 8;
+            ]
+            T4, T2, 36 + $size;
+            $($flag)*
+            jal ZERO, 36;
+            addi T0, SECOND, -1;
+            sltiu T1, T0, 32;
+            bne T1, ZERO, 8;
+            addi T0, ZERO, 31;
+            sra T0, FIRST, T0;
+            andi T1, T0, 1;
+            srai T0, T0, 1;
+            add RESULT, T0, T1;
+        )
+    };
+}
+
+pub(crate) static L_SHR_R_CLAMP: [Instr; 22] = l_shr_r!(0;);
+
+pub(crate) static L_SHR_R_FLAG: [Instr; 23] = l_shr_r!(4; addi OVERFLOW, ZERO, 1;);

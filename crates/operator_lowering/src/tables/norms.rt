@@ -1,225 +1,33 @@
 // Norms.
 
+use crate::assembly::words;
 use rv_encode::Instr;
 use rv_encode::register::{T0, T1, T6, ZERO};
 use template_runs::registers::{FIRST, RESULT};
 
-// The shifts that bring a number of 16 bits to its highest bit beside the sign, found by halves.
-pub(crate) static NORM_S: [Instr; 20] = [
-    Instr::Srai {
-        rd: T0,
-        rs1: FIRST,
-        imm: 31,
-    },
-    Instr::Xor {
-        rd: T0,
-        rs1: FIRST,
-        rs2: T0,
-    },
-    Instr::Beq {
-        rs1: T0,
-        rs2: ZERO,
-        imm: 68,
-    },
-    Instr::Addi {
-        rd: T6,
-        rs1: ZERO,
-        imm: 1,
-    },
-    Instr::Srli {
-        rd: T1,
-        rs1: T0,
-        imm: 7,
-    },
-    Instr::Bne {
-        rs1: T1,
-        rs2: ZERO,
-        imm: 12,
-    },
-    Instr::Slli {
-        rd: T0,
-        rs1: T0,
-        imm: 8,
-    },
-    Instr::Addi {
-        rd: T6,
-        rs1: T6,
-        imm: 8,
-    },
-    Instr::Srli {
-        rd: T1,
-        rs1: T0,
-        imm: 11,
-    },
-    Instr::Bne {
-        rs1: T1,
-        rs2: ZERO,
-        imm: 12,
-    },
-    Instr::Slli {
-        rd: T0,
-        rs1: T0,
-        imm: 4,
-    },
-    Instr::Addi {
-        rd: T6,
-        rs1: T6,
-        imm: 4,
-    },
-    Instr::Srli {
-        rd: T1,
-        rs1: T0,
-        imm: 13,
-    },
-    Instr::Bne {
-        rs1: T1,
-        rs2: ZERO,
-        imm: 12,
-    },
-    Instr::Slli {
-        rd: T0,
-        rs1: T0,
-        imm: 2,
-    },
-    Instr::Addi {
-        rd: T6,
-        rs1: T6,
-        imm: 2,
-    },
-    Instr::Srli {
-        rd: T1,
-        rs1: T0,
-        imm: 14,
-    },
-    Instr::Sub {
-        rd: RESULT,
-        rs1: T6,
-        rs2: T1,
-    },
-    Instr::Jal { rd: ZERO, imm: 8 },
-    Instr::Andi {
-        rd: RESULT,
-        rs1: FIRST,
-        imm: 15,
-    },
-];
+// The places by which an operand can be shifted to the left: none of 0, all of -1, and of others one less than it takes to
+// bring the magnitude into the upper half, found by halves. A pair has the shift that tells whether a magnitude is above
+// its half, and by how much it is shifted else.
+macro_rules! norm {
+    ($all:literal, $end:literal, $top:literal, $(($above:literal, $by:literal)),+) => {
+        words![
+            srai T0, FIRST, 31;
+            xor T0, FIRST, T0;
+            andi RESULT, FIRST, $all;
+            beq T0, ZERO, $end;
+            addi T6, ZERO, 1;
+            $(
+                srli T1, T0, $above;
+                bne T1, ZERO, 12;
+                slli T0, T0, $by;
+                addi T6, T6, $by;
+            )+
+            srli T1, T0, $top;
+            sub RESULT, T6, T1;
+        ]
+    };
+}
 
-// The same of a number of 32 bits.
-pub(crate) static NORM_L: [Instr; 24] = [
-    Instr::Srai {
-        rd: T0,
-        rs1: FIRST,
-        imm: 31,
-    },
-    Instr::Xor {
-        rd: T0,
-        rs1: FIRST,
-        rs2: T0,
-    },
-    Instr::Beq {
-        rs1: T0,
-        rs2: ZERO,
-        imm: 84,
-    },
-    Instr::Addi {
-        rd: T6,
-        rs1: ZERO,
-        imm: 1,
-    },
-    Instr::Srli {
-        rd: T1,
-        rs1: T0,
-        imm: 15,
-    },
-    Instr::Bne {
-        rs1: T1,
-        rs2: ZERO,
-        imm: 12,
-    },
-    Instr::Slli {
-        rd: T0,
-        rs1: T0,
-        imm: 16,
-    },
-    Instr::Addi {
-        rd: T6,
-        rs1: T6,
-        imm: 16,
-    },
-    Instr::Srli {
-        rd: T1,
-        rs1: T0,
-        imm: 23,
-    },
-    Instr::Bne {
-        rs1: T1,
-        rs2: ZERO,
-        imm: 12,
-    },
-    Instr::Slli {
-        rd: T0,
-        rs1: T0,
-        imm: 8,
-    },
-    Instr::Addi {
-        rd: T6,
-        rs1: T6,
-        imm: 8,
-    },
-    Instr::Srli {
-        rd: T1,
-        rs1: T0,
-        imm: 27,
-    },
-    Instr::Bne {
-        rs1: T1,
-        rs2: ZERO,
-        imm: 12,
-    },
-    Instr::Slli {
-        rd: T0,
-        rs1: T0,
-        imm: 4,
-    },
-    Instr::Addi {
-        rd: T6,
-        rs1: T6,
-        imm: 4,
-    },
-    Instr::Srli {
-        rd: T1,
-        rs1: T0,
-        imm: 29,
-    },
-    Instr::Bne {
-        rs1: T1,
-        rs2: ZERO,
-        imm: 12,
-    },
-    Instr::Slli {
-        rd: T0,
-        rs1: T0,
-        imm: 2,
-    },
-    Instr::Addi {
-        rd: T6,
-        rs1: T6,
-        imm: 2,
-    },
-    Instr::Srli {
-        rd: T1,
-        rs1: T0,
-        imm: 30,
-    },
-    Instr::Sub {
-        rd: RESULT,
-        rs1: T6,
-        rs2: T1,
-    },
-    Instr::Jal { rd: ZERO, imm: 8 },
-    Instr::Andi {
-        rd: RESULT,
-        rs1: FIRST,
-        imm: 31,
-    },
-];
+pub(crate) static NORM_S: [Instr; 19] = norm!(15, 64, 14, (7, 8), (11, 4), (13, 2));
+
+pub(crate) static NORM_L: [Instr; 23] = norm!(31, 80, 30, (15, 16), (23, 8), (27, 4), (29, 2));

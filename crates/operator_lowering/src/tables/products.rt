@@ -1,151 +1,50 @@
-// Products.
+// Products and quotients.
 
+use crate::assembly::words;
 use rv_encode::Instr;
 use rv_encode::register::{OVERFLOW, T0, T1, ZERO};
 use template_runs::registers::{FIRST, RESULT, SECOND};
 
-// The product of the operands, modulo 2^32.
-pub(crate) static PRODUCT: [Instr; 1] = [Instr::Mul {
-    rd: RESULT,
-    rs1: FIRST,
-    rs2: SECOND,
-}];
+// The product, modulo 2^32.
+pub(crate) static PRODUCT: [Instr; 1] = words![mul RESULT, FIRST, SECOND];
 
-// The product of two fractions of 15 bits.
-pub(crate) static MULT: [Instr; 2] = [
-    Instr::Mul {
-        rd: RESULT,
-        rs1: FIRST,
-        rs2: SECOND,
-    },
-    Instr::Srai {
-        rd: RESULT,
-        rs1: RESULT,
-        imm: 15,
-    },
-];
+// The product of fractions of 16 bits, which is 32768 at most.
+pub(crate) static MULT: [Instr; 2] = words![mul RESULT, FIRST, SECOND; srai RESULT, RESULT, 15];
 
-// The product of two fractions of 15 bits, rounded.
-pub(crate) static MULT_R: [Instr; 4] = [
-    Instr::Mul {
-        rd: RESULT,
-        rs1: FIRST,
-        rs2: SECOND,
-    },
-    Instr::Srai {
-        rd: RESULT,
-        rs1: RESULT,
-        imm: 14,
-    },
-    Instr::Addi {
-        rd: RESULT,
-        rs1: RESULT,
-        imm: 1,
-    },
-    Instr::Srai {
-        rd: RESULT,
-        rs1: RESULT,
-        imm: 1,
-    },
+// The same, rounded.
+pub(crate) static MULT_R: [Instr; 4] = words![
+    mul RESULT, FIRST, SECOND;
+    srai RESULT, RESULT, 14;
+    addi RESULT, RESULT, 1;
+    srai RESULT, RESULT, 1;
 ];
 
 // Twice the product.
-pub(crate) static L_MULT_PLAIN: [Instr; 2] = [
-    Instr::Mul {
-        rd: RESULT,
-        rs1: FIRST,
-        rs2: SECOND,
-    },
-    Instr::Slli {
-        rd: RESULT,
-        rs1: RESULT,
-        imm: 1,
-    },
-];
+pub(crate) static L_MULT_PLAIN: [Instr; 2] =
+    words![mul RESULT, FIRST, SECOND; slli RESULT, RESULT, 1];
 
-// Twice the product, clipped to 32 bits.
-pub(crate) static L_MULT_CLAMP: [Instr; 5] = [
-    Instr::Mul {
-        rd: T0,
-        rs1: FIRST,
-        rs2: SECOND,
-    },
-    Instr::Slli {
-        rd: RESULT,
-        rs1: T0,
-        imm: 1,
-    },
-    Instr::Bge {
-        rs1: RESULT,
-        rs2: ZERO,
-        imm: 12,
-    },
-    Instr::Blt {
-        rs1: T0,
-        rs2: ZERO,
-        imm: 8,
-    },
-    Instr::Addi {
-        rd: RESULT,
-        rs1: RESULT,
-        imm: -1,
-    },
-];
+// The same, clipped to 32 bits: of a product that is not negative, twice it is negative where it is 2^31.
+macro_rules! l_mult {
+    ($size:literal; $($flag:tt)*) => {
+        words![
+            mul T0, FIRST, SECOND;
+            slli RESULT, T0, 1;
+            bge RESULT, ZERO, 12 + $size;
+            blt T0, ZERO, 8 + $size;
+            addi RESULT, RESULT, -1;
+            $($flag)*
+        ]
+    };
+}
 
-// As before, and where the clip changes it Overflow is set.
-pub(crate) static L_MULT_FLAG: [Instr; 6] = [
-    Instr::Mul {
-        rd: T0,
-        rs1: FIRST,
-        rs2: SECOND,
-    },
-    Instr::Slli {
-        rd: RESULT,
-        rs1: T0,
-        imm: 1,
-    },
-    Instr::Bge {
-        rs1: RESULT,
-        rs2: ZERO,
-        imm: 16,
-    },
-    Instr::Blt {
-        rs1: T0,
-        rs2: ZERO,
-        imm: 12,
-    },
-    Instr::Addi {
-        rd: RESULT,
-        rs1: RESULT,
-        imm: -1,
-    },
-    Instr::Addi {
-        rd: OVERFLOW,
-        rs1: ZERO,
-        imm: 1,
-    },
-];
+pub(crate) static L_MULT_CLAMP: [Instr; 5] = l_mult!(0;);
 
-// The quotient of two fractions of 15 bits; 32768 becomes 32767.
-pub(crate) static DIVIDE: [Instr; 4] = [
-    Instr::Slli {
-        rd: T0,
-        rs1: FIRST,
-        imm: 15,
-    },
-    Instr::Div {
-        rd: T0,
-        rs1: T0,
-        rs2: SECOND,
-    },
-    Instr::Srli {
-        rd: T1,
-        rs1: T0,
-        imm: 15,
-    },
-    Instr::Sub {
-        rd: RESULT,
-        rs1: T0,
-        rs2: T1,
-    },
+pub(crate) static L_MULT_FLAG: [Instr; 6] = l_mult!(4; addi OVERFLOW, ZERO, 1;);
+
+// The quotient of a valid pair, which is 32767 where it would be 32768.
+pub(crate) static DIVIDE: [Instr; 4] = words![
+    slli T0, FIRST, 15;
+    div T0, T0, SECOND;
+    srli T1, T0, 15;
+    sub RESULT, T0, T1;
 ];

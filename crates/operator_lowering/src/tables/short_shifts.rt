@@ -1,770 +1,108 @@
-// Shifts of numbers of 16 bits.
+// Shifts of numbers of 16 bits, with their clips. A count of 16 or more shifts out all but 0: a shift by 16 then does the
+// same.
 
+use crate::assembly::words;
 use rv_encode::Instr;
 use rv_encode::register::{OVERFLOW, T0, T1, T2, ZERO};
 use template_runs::registers::{FIRST, RESULT, SECOND};
 
-// A shift to the left that loses nothing, or to the right.
-pub(crate) static SHL_PLAIN: [Instr; 8] = [
-    Instr::Bge {
-        rs1: SECOND,
-        rs2: ZERO,
-        imm: 28,
-    },
-    Instr::Sub {
-        rd: T0,
-        rs1: ZERO,
-        rs2: SECOND,
-    },
-    Instr::Addi {
-        rd: T1,
-        rs1: ZERO,
-        imm: 31,
-    },
-    Instr::Bgeu {
-        rs1: T1,
-        rs2: T0,
-        imm: 8,
-    },
-    Instr::Addi {
-        rd: T0,
-        rs1: ZERO,
-        imm: 31,
-    },
-    Instr::Sra {
-        rd: RESULT,
-        rs1: FIRST,
-        rs2: T0,
-    },
-    Instr::Jal { rd: ZERO, imm: 8 },
-    Instr::Sll {
-        rd: RESULT,
-        rs1: FIRST,
-        rs2: SECOND,
-    },
-];
+// Words that shift an operand to the left into T1, of which the last passes over the next one where the count is below 16;
+// the clip to 16 bits, with a hole; and words that follow, past which those that keep the number jump.
+macro_rules! clipped {
+    ([$($before:tt)*] $past:expr; $($after:tt)*) => {
+        words![
+            $($before)*
+            slli T1, FIRST, 16;
+            slli T0, T1, 16;
+            srai RESULT, T0, 16;
+            beq RESULT, T1, 20 + $past;
+            srai T0, T1, 31;
+            lui RESULT, 8;
+            addi RESULT, RESULT, -1;
+            xor RESULT, RESULT, T0;
+            $($after)*
+        ]
+    };
+}
 
-// A shift to the right, or to the left that loses nothing.
-pub(crate) static SHR_PLAIN: [Instr; 9] = [
-    Instr::Sltiu {
-        rd: T0,
-        rs1: SECOND,
-        imm: 32,
-    },
-    Instr::Bne {
-        rs1: T0,
-        rs2: ZERO,
-        imm: 28,
-    },
-    Instr::Blt {
-        rs1: SECOND,
-        rs2: ZERO,
-        imm: 12,
-    },
-    Instr::Srai {
-        rd: RESULT,
-        rs1: FIRST,
-        imm: 31,
-    },
-    Instr::Jal { rd: ZERO, imm: 20 },
-    Instr::Sub {
-        rd: T2,
-        rs1: ZERO,
-        rs2: SECOND,
-    },
-    Instr::Sll {
-        rd: RESULT,
-        rs1: FIRST,
-        rs2: T2,
-    },
-    Instr::Jal { rd: ZERO, imm: 8 },
-    Instr::Sra {
-        rd: RESULT,
-        rs1: FIRST,
-        rs2: SECOND,
-    },
-];
+// To the left, or to the right by at most 31.
+macro_rules! shl {
+    ($size:literal; $($flag:tt)*) => {
+        clipped!(
+            [
+                sltiu T0, SECOND, 16;
+                sll T1, FIRST, SECOND;
+                bne T0, ZERO, 12;
+                blt SECOND, ZERO, 40 + $size;
+            ]
+            24 + $size;
+            $($flag)*
+            jal ZERO, 24;
+            sub T0, ZERO, SECOND;
+            addi T1, ZERO, 31;
+            bgeu T1, T0, 8;
+            addi T0, ZERO, 31;
+            sra RESULT, FIRST, T0;
+        )
+    };
+}
 
-// A rounded shift to the right, or a shift to the left that loses nothing.
-pub(crate) static SHR_R_PLAIN: [Instr; 11] = [
-    Instr::Blt {
-        rs1: ZERO,
-        rs2: SECOND,
-        imm: 16,
-    },
-    Instr::Sub {
-        rd: T2,
-        rs1: ZERO,
-        rs2: SECOND,
-    },
-    Instr::Sll {
-        rd: RESULT,
-        rs1: FIRST,
-        rs2: T2,
-    },
-    Instr::Jal { rd: ZERO, imm: 32 },
-    Instr::Addi {
-        rd: T0,
-        rs1: SECOND,
-        imm: -1,
-    },
-    Instr::Sltiu {
-        rd: T1,
-        rs1: T0,
-        imm: 32,
-    },
-    Instr::Bne {
-        rs1: T1,
-        rs2: ZERO,
-        imm: 8,
-    },
-    Instr::Addi {
-        rd: T0,
-        rs1: ZERO,
-        imm: 31,
-    },
-    Instr::Sra {
-        rd: T0,
-        rs1: FIRST,
-        rs2: T0,
-    },
-    Instr::Addi {
-        rd: T0,
-        rs1: T0,
-        imm: 1,
-    },
-    Instr::Srai {
-        rd: RESULT,
-        rs1: T0,
-        imm: 1,
-    },
-];
+pub(crate) static SHL_CLAMP: [Instr; 18] = shl!(0;);
 
-// A shift to the left with a clip to 16 bits, or to the right.
-pub(crate) static SHL_CLAMP: [Instr; 21] = [
-    Instr::Sltiu {
-        rd: T0,
-        rs1: SECOND,
-        imm: 16,
-    },
-    Instr::Bne {
-        rs1: T0,
-        rs2: ZERO,
-        imm: 48,
-    },
-    Instr::Blt {
-        rs1: SECOND,
-        rs2: ZERO,
-        imm: 20,
-    },
-    Instr::Addi {
-        rd: T1,
-        rs1: FIRST,
-        imm: 0,
-    },
-    Instr::Bne {
-        rs1: T1,
-        rs2: ZERO,
-        imm: 52,
-    },
-    Instr::Addi {
-        rd: RESULT,
-        rs1: ZERO,
-        imm: 0,
-    },
-    Instr::Jal { rd: ZERO, imm: 60 },
-    Instr::Sub {
-        rd: T0,
-        rs1: ZERO,
-        rs2: SECOND,
-    },
-    Instr::Addi {
-        rd: T1,
-        rs1: ZERO,
-        imm: 31,
-    },
-    Instr::Bgeu {
-        rs1: T1,
-        rs2: T0,
-        imm: 8,
-    },
-    Instr::Addi {
-        rd: T0,
-        rs1: ZERO,
-        imm: 31,
-    },
-    Instr::Sra {
-        rd: RESULT,
-        rs1: FIRST,
-        rs2: T0,
-    },
-    Instr::Jal { rd: ZERO, imm: 36 },
-    Instr::Sll {
-        rd: T1,
-        rs1: FIRST,
-        rs2: SECOND,
-    },
-    Instr::Slli {
-        rd: T0,
-        rs1: T1,
-        imm: 16,
-    },
-    Instr::Srai {
-        rd: RESULT,
-        rs1: T0,
-        imm: 16,
-    },
-    Instr::Beq {
-        rs1: RESULT,
-        rs2: T1,
-        imm: 20,
-    },
-    Instr::Srai {
-        rd: T0,
-        rs1: T1,
-        imm: 31,
-    },
-    Instr::Lui { rd: RESULT, imm: 8 },
-    Instr::Addi {
-        rd: RESULT,
-        rs1: RESULT,
-        imm: -1,
-    },
-    Instr::Xor {
-        rd: RESULT,
-        rs1: RESULT,
-        rs2: T0,
-    },
-];
+pub(crate) static SHL_FLAG: [Instr; 19] = shl!(4; addi OVERFLOW, ZERO, 1;);
 
-// As before, and where the clip changes it Overflow is set.
-pub(crate) static SHL_FLAG: [Instr; 22] = [
-    Instr::Sltiu {
-        rd: T0,
-        rs1: SECOND,
-        imm: 16,
-    },
-    Instr::Bne {
-        rs1: T0,
-        rs2: ZERO,
-        imm: 48,
-    },
-    Instr::Blt {
-        rs1: SECOND,
-        rs2: ZERO,
-        imm: 20,
-    },
-    Instr::Addi {
-        rd: T1,
-        rs1: FIRST,
-        imm: 0,
-    },
-    Instr::Bne {
-        rs1: T1,
-        rs2: ZERO,
-        imm: 52,
-    },
-    Instr::Addi {
-        rd: RESULT,
-        rs1: ZERO,
-        imm: 0,
-    },
-    Instr::Jal { rd: ZERO, imm: 64 },
-    Instr::Sub {
-        rd: T0,
-        rs1: ZERO,
-        rs2: SECOND,
-    },
-    Instr::Addi {
-        rd: T1,
-        rs1: ZERO,
-        imm: 31,
-    },
-    Instr::Bgeu {
-        rs1: T1,
-        rs2: T0,
-        imm: 8,
-    },
-    Instr::Addi {
-        rd: T0,
-        rs1: ZERO,
-        imm: 31,
-    },
-    Instr::Sra {
-        rd: RESULT,
-        rs1: FIRST,
-        rs2: T0,
-    },
-    Instr::Jal { rd: ZERO, imm: 40 },
-    Instr::Sll {
-        rd: T1,
-        rs1: FIRST,
-        rs2: SECOND,
-    },
-    Instr::Slli {
-        rd: T0,
-        rs1: T1,
-        imm: 16,
-    },
-    Instr::Srai {
-        rd: RESULT,
-        rs1: T0,
-        imm: 16,
-    },
-    Instr::Beq {
-        rs1: RESULT,
-        rs2: T1,
-        imm: 24,
-    },
-    Instr::Srai {
-        rd: T0,
-        rs1: T1,
-        imm: 31,
-    },
-    Instr::Lui { rd: RESULT, imm: 8 },
-    Instr::Addi {
-        rd: RESULT,
-        rs1: RESULT,
-        imm: -1,
-    },
-    Instr::Xor {
-        rd: RESULT,
-        rs1: RESULT,
-        rs2: T0,
-    },
-    Instr::Addi {
-        rd: OVERFLOW,
-        rs1: ZERO,
-        imm: 1,
-    },
-];
+// To the right by at most 31, or to the left.
+macro_rules! shr {
+    ($size:literal; $($flag:tt)*) => {
+        clipped!(
+            [
+                sltiu T0, SECOND, 32;
+                bne T0, ZERO, 68 + $size;
+                blt SECOND, ZERO, 12;
+                srai RESULT, FIRST, 31;
+                jal ZERO, 60 + $size;
+                sub T2, ZERO, SECOND;
+                sltiu T0, T2, 16;
+                sll T1, FIRST, T2;
+                bne T0, ZERO, 8;
+            ]
+            8 + $size;
+            $($flag)*
+            jal ZERO, 8;
+            sra RESULT, FIRST, SECOND;
+        )
+    };
+}
 
-// A shift to the right, or to the left with a clip to 16 bits.
-pub(crate) static SHR_CLAMP: [Instr; 22] = [
-    Instr::Sltiu {
-        rd: T0,
-        rs1: SECOND,
-        imm: 32,
-    },
-    Instr::Bne {
-        rs1: T0,
-        rs2: ZERO,
-        imm: 80,
-    },
-    Instr::Blt {
-        rs1: SECOND,
-        rs2: ZERO,
-        imm: 12,
-    },
-    Instr::Srai {
-        rd: RESULT,
-        rs1: FIRST,
-        imm: 31,
-    },
-    Instr::Jal { rd: ZERO, imm: 72 },
-    Instr::Sub {
-        rd: T2,
-        rs1: ZERO,
-        rs2: SECOND,
-    },
-    Instr::Sltiu {
-        rd: T0,
-        rs1: T2,
-        imm: 16,
-    },
-    Instr::Bne {
-        rs1: T0,
-        rs2: ZERO,
-        imm: 20,
-    },
-    Instr::Addi {
-        rd: T1,
-        rs1: FIRST,
-        imm: 0,
-    },
-    Instr::Bne {
-        rs1: T1,
-        rs2: ZERO,
-        imm: 28,
-    },
-    Instr::Addi {
-        rd: RESULT,
-        rs1: ZERO,
-        imm: 0,
-    },
-    Instr::Jal { rd: ZERO, imm: 44 },
-    Instr::Sll {
-        rd: T1,
-        rs1: FIRST,
-        rs2: T2,
-    },
-    Instr::Slli {
-        rd: T0,
-        rs1: T1,
-        imm: 16,
-    },
-    Instr::Srai {
-        rd: RESULT,
-        rs1: T0,
-        imm: 16,
-    },
-    Instr::Beq {
-        rs1: RESULT,
-        rs2: T1,
-        imm: 28,
-    },
-    Instr::Srai {
-        rd: T0,
-        rs1: T1,
-        imm: 31,
-    },
-    Instr::Lui { rd: RESULT, imm: 8 },
-    Instr::Addi {
-        rd: RESULT,
-        rs1: RESULT,
-        imm: -1,
-    },
-    Instr::Xor {
-        rd: RESULT,
-        rs1: RESULT,
-        rs2: T0,
-    },
-    Instr::Jal { rd: ZERO, imm: 8 },
-    Instr::Sra {
-        rd: RESULT,
-        rs1: FIRST,
-        rs2: SECOND,
-    },
-];
+pub(crate) static SHR_CLAMP: [Instr; 19] = shr!(0;);
 
-// As before, and where the clip changes it Overflow is set.
-pub(crate) static SHR_FLAG: [Instr; 23] = [
-    Instr::Sltiu {
-        rd: T0,
-        rs1: SECOND,
-        imm: 32,
-    },
-    Instr::Bne {
-        rs1: T0,
-        rs2: ZERO,
-        imm: 84,
-    },
-    Instr::Blt {
-        rs1: SECOND,
-        rs2: ZERO,
-        imm: 12,
-    },
-    Instr::Srai {
-        rd: RESULT,
-        rs1: FIRST,
-        imm: 31,
-    },
-    Instr::Jal { rd: ZERO, imm: 76 },
-    Instr::Sub {
-        rd: T2,
-        rs1: ZERO,
-        rs2: SECOND,
-    },
-    Instr::Sltiu {
-        rd: T0,
-        rs1: T2,
-        imm: 16,
-    },
-    Instr::Bne {
-        rs1: T0,
-        rs2: ZERO,
-        imm: 20,
-    },
-    Instr::Addi {
-        rd: T1,
-        rs1: FIRST,
-        imm: 0,
-    },
-    Instr::Bne {
-        rs1: T1,
-        rs2: ZERO,
-        imm: 28,
-    },
-    Instr::Addi {
-        rd: RESULT,
-        rs1: ZERO,
-        imm: 0,
-    },
-    Instr::Jal { rd: ZERO, imm: 48 },
-    Instr::Sll {
-        rd: T1,
-        rs1: FIRST,
-        rs2: T2,
-    },
-    Instr::Slli {
-        rd: T0,
-        rs1: T1,
-        imm: 16,
-    },
-    Instr::Srai {
-        rd: RESULT,
-        rs1: T0,
-        imm: 16,
-    },
-    Instr::Beq {
-        rs1: RESULT,
-        rs2: T1,
-        imm: 32,
-    },
-    Instr::Srai {
-        rd: T0,
-        rs1: T1,
-        imm: 31,
-    },
-    Instr::Lui { rd: RESULT, imm: 8 },
-    Instr::Addi {
-        rd: RESULT,
-        rs1: RESULT,
-        imm: -1,
-    },
-    Instr::Xor {
-        rd: RESULT,
-        rs1: RESULT,
-        rs2: T0,
-    },
-    Instr::Addi {
-        rd: OVERFLOW,
-        rs1: ZERO,
-        imm: 1,
-    },
-    Instr::Jal { rd: ZERO, imm: 8 },
-    Instr::Sra {
-        rd: RESULT,
-        rs1: FIRST,
-        rs2: SECOND,
-    },
-];
+pub(crate) static SHR_FLAG: [Instr; 20] = shr!(4; addi OVERFLOW, ZERO, 1;);
 
-// A rounded shift to the right, or a shift to the left with a clip to 16 bits.
-pub(crate) static SHR_R_CLAMP: [Instr; 24] = [
-    Instr::Blt {
-        rs1: ZERO,
-        rs2: SECOND,
-        imm: 68,
-    },
-    Instr::Sub {
-        rd: T2,
-        rs1: ZERO,
-        rs2: SECOND,
-    },
-    Instr::Sltiu {
-        rd: T0,
-        rs1: T2,
-        imm: 16,
-    },
-    Instr::Bne {
-        rs1: T0,
-        rs2: ZERO,
-        imm: 20,
-    },
-    Instr::Addi {
-        rd: T1,
-        rs1: FIRST,
-        imm: 0,
-    },
-    Instr::Bne {
-        rs1: T1,
-        rs2: ZERO,
-        imm: 28,
-    },
-    Instr::Addi {
-        rd: RESULT,
-        rs1: ZERO,
-        imm: 0,
-    },
-    Instr::Jal { rd: ZERO, imm: 68 },
-    Instr::Sll {
-        rd: T1,
-        rs1: FIRST,
-        rs2: T2,
-    },
-    Instr::Slli {
-        rd: T0,
-        rs1: T1,
-        imm: 16,
-    },
-    Instr::Srai {
-        rd: RESULT,
-        rs1: T0,
-        imm: 16,
-    },
-    Instr::Beq {
-        rs1: RESULT,
-        rs2: T1,
-        imm: 52,
-    },
-    Instr::Srai {
-        rd: T0,
-        rs1: T1,
-        imm: 31,
-    },
-    Instr::Lui { rd: RESULT, imm: 8 },
-    Instr::Addi {
-        rd: RESULT,
-        rs1: RESULT,
-        imm: -1,
-    },
-    Instr::Xor {
-        rd: RESULT,
-        rs1: RESULT,
-        rs2: T0,
-    },
-    Instr::Jal { rd: ZERO, imm: 32 },
-    Instr::Addi {
-        rd: T0,
-        rs1: SECOND,
-        imm: -1,
-    },
-    Instr::Sltiu {
-        rd: T1,
-        rs1: T0,
-        imm: 32,
-    },
-    Instr::Bne {
-        rs1: T1,
-        rs2: ZERO,
-        imm: 8,
-    },
-    Instr::Addi {
-        rd: T0,
-        rs1: ZERO,
-        imm: 31,
-    },
-    Instr::Sra {
-        rd: T0,
-        rs1: FIRST,
-        rs2: T0,
-    },
-    Instr::Addi {
-        rd: T0,
-        rs1: T0,
-        imm: 1,
-    },
-    Instr::Srai {
-        rd: RESULT,
-        rs1: T0,
-        imm: 1,
-    },
-];
+// To the right, rounded, or to the left.
+macro_rules! shr_r {
+    ($size:literal; $($flag:tt)*) => {
+        clipped!(
+            [
+                blt ZERO, SECOND, 56 + $size;
+                sub T2, ZERO, SECOND;
+                sltiu T0, T2, 16;
+                sll T1, FIRST, T2;
+                bne T0, ZERO, 8;
+            ]
+            32 + $size;
+            $($flag)*
+            jal ZERO, 32;
+            addi T0, SECOND, -1;
+            sltiu T1, T0, 32;
+            bne T1, ZERO, 8;
+            addi T0, ZERO, 31;
+            sra T0, FIRST, T0;
+            addi T0, T0, 1;
+            srai RESULT, T0, 1;
+        )
+    };
+}
 
-// As before, and where the clip changes it Overflow is set.
-pub(crate) static SHR_R_FLAG: [Instr; 25] = [
-    Instr::Blt {
-        rs1: ZERO,
-        rs2: SECOND,
-        imm: 72,
-    },
-    Instr::Sub {
-        rd: T2,
-        rs1: ZERO,
-        rs2: SECOND,
-    },
-    Instr::Sltiu {
-        rd: T0,
-        rs1: T2,
-        imm: 16,
-    },
-    Instr::Bne {
-        rs1: T0,
-        rs2: ZERO,
-        imm: 20,
-    },
-    Instr::Addi {
-        rd: T1,
-        rs1: FIRST,
-        imm: 0,
-    },
-    Instr::Bne {
-        rs1: T1,
-        rs2: ZERO,
-        imm: 28,
-    },
-    Instr::Addi {
-        rd: RESULT,
-        rs1: ZERO,
-        imm: 0,
-    },
-    Instr::Jal { rd: ZERO, imm: 72 },
-    Instr::Sll {
-        rd: T1,
-        rs1: FIRST,
-        rs2: T2,
-    },
-    Instr::Slli {
-        rd: T0,
-        rs1: T1,
-        imm: 16,
-    },
-    Instr::Srai {
-        rd: RESULT,
-        rs1: T0,
-        imm: 16,
-    },
-    Instr::Beq {
-        rs1: RESULT,
-        rs2: T1,
-        imm: 56,
-    },
-    Instr::Srai {
-        rd: T0,
-        rs1: T1,
-        imm: 31,
-    },
-    Instr::Lui { rd: RESULT, imm: 8 },
-    Instr::Addi {
-        rd: RESULT,
-        rs1: RESULT,
-        imm: -1,
-    },
-    Instr::Xor {
-        rd: RESULT,
-        rs1: RESULT,
-        rs2: T0,
-    },
-    Instr::Addi {
-        rd: OVERFLOW,
-        rs1: ZERO,
-        imm: 1,
-    },
-    Instr::Jal { rd: ZERO, imm: 32 },
-    Instr::Addi {
-        rd: T0,
-        rs1: SECOND,
-        imm: -1,
-    },
-    Instr::Sltiu {
-        rd: T1,
-        rs1: T0,
-        imm: 32,
-    },
-    Instr::Bne {
-        rs1: T1,
-        rs2: ZERO,
-        imm: 8,
-    },
-    Instr::Addi {
-        rd: T0,
-        rs1: ZERO,
-        imm: 31,
-    },
-    Instr::Sra {
-        rd: T0,
-        rs1: FIRST,
-        rs2: T0,
-    },
-    Instr::Addi {
-        rd: T0,
-        rs1: T0,
-        imm: 1,
-    },
-    Instr::Srai {
-        rd: RESULT,
-        rs1: T0,
-        imm: 1,
-    },
-];
+pub(crate) static SHR_R_CLAMP: [Instr; 21] = shr_r!(0;);
+
+pub(crate) static SHR_R_FLAG: [Instr; 22] = shr_r!(4; addi OVERFLOW, ZERO, 1;);

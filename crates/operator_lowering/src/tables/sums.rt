@@ -1,283 +1,97 @@
 // Sums and differences.
 
+use crate::assembly::words;
 use rv_encode::Instr;
-use rv_encode::register::{OVERFLOW, T0, T1, ZERO};
+use rv_encode::register::{OVERFLOW, T0, T1, T2, ZERO};
 use template_runs::registers::{FIRST, RESULT, SECOND};
 
 // The sum of the operands, modulo 2^32.
-pub(crate) static SUM: [Instr; 1] = [Instr::Add {
-    rd: RESULT,
-    rs1: FIRST,
-    rs2: SECOND,
-}];
+pub(crate) static SUM: [Instr; 1] = words![add RESULT, FIRST, SECOND];
 
 // The difference of the operands, modulo 2^32.
-pub(crate) static DIFFERENCE: [Instr; 1] = [Instr::Sub {
-    rd: RESULT,
-    rs1: FIRST,
-    rs2: SECOND,
-}];
+pub(crate) static DIFFERENCE: [Instr; 1] = words![sub RESULT, FIRST, SECOND];
 
-// The sum, clipped to 32 bits. The first operand is read after the result is written.
-pub(crate) static L_ADD_CLAMP: [Instr; 9] = [
-    Instr::Blt {
-        rs1: SECOND,
-        rs2: ZERO,
-        imm: 16,
-    },
-    Instr::Add {
-        rd: RESULT,
-        rs1: FIRST,
-        rs2: SECOND,
-    },
-    Instr::Bge {
-        rs1: RESULT,
-        rs2: FIRST,
-        imm: 28,
-    },
-    Instr::Jal { rd: ZERO, imm: 12 },
-    Instr::Add {
-        rd: RESULT,
-        rs1: FIRST,
-        rs2: SECOND,
-    },
-    Instr::Blt {
-        rs1: RESULT,
-        rs2: FIRST,
-        imm: 16,
-    },
-    Instr::Srai {
-        rd: T0,
-        rs1: RESULT,
-        imm: 31,
-    },
-    Instr::Lui {
-        rd: RESULT,
-        imm: 0x80000,
-    },
-    Instr::Xor {
-        rd: RESULT,
-        rs1: RESULT,
-        rs2: T0,
-    },
-];
+// A sum or a difference, clipped to 32 bits. It is exact where the second operand is not negative and the high one of the
+// two named is not less than the low one, and where it is negative and the high one is less. Both operands are read after
+// the result is written.
+macro_rules! clipped {
+    ($name:ident, $high:ident, $low:ident, $size:literal; $($flag:tt)*) => {
+        words![
+            $name RESULT, FIRST, SECOND;
+            blt SECOND, ZERO, 12;
+            bge $high, $low, 24 + $size;
+            jal ZERO, 8;
+            blt $high, $low, 16 + $size;
+            srai T0, RESULT, 31;
+            lui RESULT, 0x80000;
+            xor RESULT, RESULT, T0;
+            $($flag)*
+        ]
+    };
+}
 
-// As before, and where the clip changes it Overflow is set.
-pub(crate) static L_ADD_FLAG: [Instr; 10] = [
-    Instr::Blt {
-        rs1: SECOND,
-        rs2: ZERO,
-        imm: 16,
-    },
-    Instr::Add {
-        rd: RESULT,
-        rs1: FIRST,
-        rs2: SECOND,
-    },
-    Instr::Bge {
-        rs1: RESULT,
-        rs2: FIRST,
-        imm: 32,
-    },
-    Instr::Jal { rd: ZERO, imm: 12 },
-    Instr::Add {
-        rd: RESULT,
-        rs1: FIRST,
-        rs2: SECOND,
-    },
-    Instr::Blt {
-        rs1: RESULT,
-        rs2: FIRST,
-        imm: 20,
-    },
-    Instr::Srai {
-        rd: T0,
-        rs1: RESULT,
-        imm: 31,
-    },
-    Instr::Lui {
-        rd: RESULT,
-        imm: 0x80000,
-    },
-    Instr::Xor {
-        rd: RESULT,
-        rs1: RESULT,
-        rs2: T0,
-    },
-    Instr::Addi {
-        rd: OVERFLOW,
-        rs1: ZERO,
-        imm: 1,
-    },
-];
+pub(crate) static L_ADD_CLAMP: [Instr; 8] = clipped!(add, RESULT, FIRST, 0;);
 
-// The difference, clipped to 32 bits. The first operand is read after the result is written.
-pub(crate) static L_SUB_CLAMP: [Instr; 9] = [
-    Instr::Blt {
-        rs1: SECOND,
-        rs2: ZERO,
-        imm: 16,
-    },
-    Instr::Sub {
-        rd: RESULT,
-        rs1: FIRST,
-        rs2: SECOND,
-    },
-    Instr::Bge {
-        rs1: FIRST,
-        rs2: RESULT,
-        imm: 28,
-    },
-    Instr::Jal { rd: ZERO, imm: 12 },
-    Instr::Sub {
-        rd: RESULT,
-        rs1: FIRST,
-        rs2: SECOND,
-    },
-    Instr::Blt {
-        rs1: FIRST,
-        rs2: RESULT,
-        imm: 16,
-    },
-    Instr::Srai {
-        rd: T0,
-        rs1: RESULT,
-        imm: 31,
-    },
-    Instr::Lui {
-        rd: RESULT,
-        imm: 0x80000,
-    },
-    Instr::Xor {
-        rd: RESULT,
-        rs1: RESULT,
-        rs2: T0,
-    },
-];
+pub(crate) static L_ADD_FLAG: [Instr; 9] = clipped!(add, RESULT, FIRST, 4; addi OVERFLOW, ZERO, 1;);
 
-// As before, and where the clip changes it Overflow is set.
-pub(crate) static L_SUB_FLAG: [Instr; 10] = [
-    Instr::Blt {
-        rs1: SECOND,
-        rs2: ZERO,
-        imm: 16,
-    },
-    Instr::Sub {
-        rd: RESULT,
-        rs1: FIRST,
-        rs2: SECOND,
-    },
-    Instr::Bge {
-        rs1: FIRST,
-        rs2: RESULT,
-        imm: 32,
-    },
-    Instr::Jal { rd: ZERO, imm: 12 },
-    Instr::Sub {
-        rd: RESULT,
-        rs1: FIRST,
-        rs2: SECOND,
-    },
-    Instr::Blt {
-        rs1: FIRST,
-        rs2: RESULT,
-        imm: 20,
-    },
-    Instr::Srai {
-        rd: T0,
-        rs1: RESULT,
-        imm: 31,
-    },
-    Instr::Lui {
-        rd: RESULT,
-        imm: 0x80000,
-    },
-    Instr::Xor {
-        rd: RESULT,
-        rs1: RESULT,
-        rs2: T0,
-    },
-    Instr::Addi {
-        rd: OVERFLOW,
-        rs1: ZERO,
-        imm: 1,
-    },
-];
+pub(crate) static L_SUB_CLAMP: [Instr; 8] = clipped!(sub, FIRST, RESULT, 0;);
+
+pub(crate) static L_SUB_FLAG: [Instr; 9] = clipped!(sub, FIRST, RESULT, 4; addi OVERFLOW, ZERO, 1;);
+
+// The same where the result has the register of the second operand, which is read before.
+macro_rules! clipped_in_place {
+    ($name:ident, $high:ident, $low:ident, $size:literal; $($flag:tt)*) => {
+        words![
+            blt SECOND, ZERO, 16;
+            $name RESULT, FIRST, SECOND;
+            bge $high, $low, 28 + $size;
+            jal ZERO, 12;
+            $name RESULT, FIRST, SECOND;
+            blt $high, $low, 16 + $size;
+            srai T0, RESULT, 31;
+            lui RESULT, 0x80000;
+            xor RESULT, RESULT, T0;
+            $($flag)*
+        ]
+    };
+}
+
+pub(crate) static L_ADD_IN_PLACE_CLAMP: [Instr; 9] = clipped_in_place!(add, RESULT, FIRST, 0;);
+
+pub(crate) static L_ADD_IN_PLACE_FLAG: [Instr; 10] =
+    clipped_in_place!(add, RESULT, FIRST, 4; addi OVERFLOW, ZERO, 1;);
+
+pub(crate) static L_SUB_IN_PLACE_CLAMP: [Instr; 9] = clipped_in_place!(sub, FIRST, RESULT, 0;);
+
+pub(crate) static L_SUB_IN_PLACE_FLAG: [Instr; 10] =
+    clipped_in_place!(sub, FIRST, RESULT, 4; addi OVERFLOW, ZERO, 1;);
 
 // The upper half of the operand and 2^15.
-pub(crate) static ROUND_PLAIN: [Instr; 3] = [
-    Instr::Lui { rd: T0, imm: 8 },
-    Instr::Add {
-        rd: T1,
-        rs1: FIRST,
-        rs2: T0,
-    },
-    Instr::Srai {
-        rd: RESULT,
-        rs1: T1,
-        imm: 16,
-    },
+pub(crate) static ROUND_PLAIN: [Instr; 3] = words![
+    lui T0, 8;
+    add T1, FIRST, T0;
+    srai RESULT, T1, 16;
 ];
 
-// As before, of the sum clipped to 32 bits.
-pub(crate) static ROUND_CLAMP: [Instr; 6] = [
-    Instr::Lui { rd: T0, imm: 8 },
-    Instr::Add {
-        rd: T1,
-        rs1: FIRST,
-        rs2: T0,
-    },
-    Instr::Bge {
-        rs1: T1,
-        rs2: FIRST,
-        imm: 12,
-    },
-    Instr::Lui {
-        rd: T1,
-        imm: 0x80000,
-    },
-    Instr::Addi {
-        rd: T1,
-        rs1: T1,
-        imm: -1,
-    },
-    Instr::Srai {
-        rd: RESULT,
-        rs1: T1,
-        imm: 16,
-    },
-];
+// The same of a register, the sum clipped to 32 bits.
+macro_rules! rounded {
+    ($number:ident, $size:literal; $($flag:tt)*) => {
+        words![
+            lui T0, 8;
+            add T1, $number, T0;
+            bge T1, $number, 12 + $size;
+            lui T1, 0x80000;
+            addi T1, T1, -1;
+            $($flag)*
+            srai RESULT, T1, 16;
+        ]
+    };
+}
 
-// As before, and where the clip changes the sum Overflow is set.
-pub(crate) static ROUND_FLAG: [Instr; 7] = [
-    Instr::Lui { rd: T0, imm: 8 },
-    Instr::Add {
-        rd: T1,
-        rs1: FIRST,
-        rs2: T0,
-    },
-    Instr::Bge {
-        rs1: T1,
-        rs2: FIRST,
-        imm: 16,
-    },
-    Instr::Lui {
-        rd: T1,
-        imm: 0x80000,
-    },
-    Instr::Addi {
-        rd: T1,
-        rs1: T1,
-        imm: -1,
-    },
-    Instr::Addi {
-        rd: OVERFLOW,
-        rs1: ZERO,
-        imm: 1,
-    },
-    Instr::Srai {
-        rd: RESULT,
-        rs1: T1,
-        imm: 16,
-    },
-];
+pub(crate) static ROUND_CLAMP: [Instr; 6] = rounded!(FIRST, 0;);
+
+pub(crate) static ROUND_FLAG: [Instr; 7] = rounded!(FIRST, 4; addi OVERFLOW, ZERO, 1;);
+
+pub(crate) static ROUND_SUM_CLAMP: [Instr; 6] = rounded!(T2, 0;);
+
+pub(crate) static ROUND_SUM_FLAG: [Instr; 7] = rounded!(T2, 4; addi OVERFLOW, ZERO, 1;);

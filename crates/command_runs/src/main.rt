@@ -1,0 +1,18 @@
+// Runs of the commands over a store and a sink in memory: each line of the standard input is a case, and each line of the
+// standard output is what its runs left.
+#![tactic(auto)]
+
+mod case;
+mod run;
+mod shown;
+
+use std::io;
+
+fn main(rt: HostRuntime) -> io::Result<()> {
+    for line in rt.lines(rt.alloc()) {
+        let line = line?;
+        let text = case::answer_to(rt.alloc(), line.as_str())?;
+        println!(rt; "{text}")?;
+    }
+    Ok(())
+}

@@ -1,0 +1,6 @@
+// Laws of the runs of every source.
+#![tactic(auto)]
+
+mod laws;
+
+pub use laws::turns_only_add;
