@@ -1,15 +1,7 @@
-// Reads the items of a source from its tokens: each method reads what a function on lists of tokens says.
+// Reads the items of a source from its tokens: each function reads what a function on lists of tokens says.
 #![tactic(auto)]
 
-mod call;
-mod declaration;
-mod expression;
-mod function;
-mod item;
-mod measured;
-mod place;
-mod reader;
-mod simple;
-mod statement;
+mod functions;
+mod items;
 
-pub use item::parsed;
+pub use items::parsed;

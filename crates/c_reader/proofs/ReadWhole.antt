@@ -10,7 +10,7 @@ use Rattle.c_tree.specs.Depth.{deepest, depth_of_item}
 use Rattle.c_grammar.specs.declared.refusal.ReadRefusal.{ReadRefusal}
 use Rattle.c_grammar.specs.declared.refusal.ReadRefusal.TheVariants as refusal
 use Rattle.c_grammar.specs.declared.symbol.Symbol.TheVariants as symbol
-use Rattle.c_parser.specs.Gives.{Fails}
+use Rattle.token_reader.specs.Gives.{Fails}
 use Rattle.c_grammar.specs.Nodes as a
 use Rattle.c_grammar.specs.Parts.{each}
 use Rattle.c_grammar.specs.Programs.{IsRefused, SpellAtMostOne, stream_of}
@@ -52,7 +52,7 @@ by_read tokens (Ok z) r items j e is =
     record { some = λ g. let h : z.0.0 ∷ z.0.1 ≡ [] = same ∙ g in cc; depth = r.depth; spelled = spelled; within = omega (arith, program_depth items spelled, r.within) }
 
 by_fault : (tokens : Tokens) (y : Result ((Item × List Item) × List Spot) Fault) → ItemsRight DEPTH (stream_of tokens) y
-    → (r : ReadRefusal) → Fails r (seen_by front_of y) → IsRefused tokens r
+    → (r : ReadRefusal) → Fails (seen_by front_of y) r → IsRefused tokens r
 by_fault tokens y right refusal.Memory e = tt
 by_fault tokens (Ok z) right (refusal.Syntax tok place) e = cc
 by_fault tokens (Ok z) right (refusal.TooDeep tok place) e = cc
@@ -67,13 +67,12 @@ module _ (tokens : Tokens) where
   all_right : ReadsItems (block_with objects_at DEPTH) DEPTH (stream_of tokens)
   all_right = source_right DEPTH (stream_of tokens) (ends-last (spots_of tokens) (end_of tokens) refl)
 
-  pub whole_tree : (items : List Item) (j : List Spot) → whole_at (stream_of tokens) ≡ Ok (items, j) → ahead j ≡ symbol.End → WholeTree tokens items
-  whole_tree items j e is =
-      by_read tokens all_right.read all_right.right items j (sym all_right.same ∙ e) is
+  pub whole_tree : (items : List Item) (j : List Spot) → whole_at (stream_of tokens) ≡ Ok (items, j) → WholeTree tokens items
+  whole_tree items j e = by_read tokens all_right.read all_right.right items j (sym all_right.same ∙ e) (all_right.ended items j e)
 
-  pub whole_refused : (r : ReadRefusal) → Fails r (whole_at (stream_of tokens)) → IsRefused tokens r
+  pub whole_refused : (r : ReadRefusal) → Fails (whole_at (stream_of tokens)) r → IsRefused tokens r
   whole_refused r e =
-      by_fault tokens all_right.read all_right.right r (subst (λ (y : Result (List Item × List Spot) Fault). Fails r y) all_right.same e)
+      by_fault tokens all_right.read all_right.right r (subst (λ (y : Result (List Item × List Spot) Fault). Fails y r) all_right.same e)
 
 -- ---- at most one tree
 

@@ -121,7 +121,7 @@ end_apart s e f = let g : before_end s ≡ false = ap not f in cc (e, g)
 item_begins : (x : Item) (c : ℕ) (v s : List Spot) → Spells (node (a.item x) ∷ []) c v → before_end (ahead (v ++ s)) ≡ true
 item_begins x c v s sp = among begins_item before_end refl (ahead (v ++ s)) (spells_starts s sp)
 
-item_filled : (x : Item) (c : ℕ) → Spells (node (a.item x) ∷ []) c [] → ⊥
+pub item_filled : (x : Item) (c : ℕ) → Spells (node (a.item x) ∷ []) c [] → ⊥
 item_filled x c sp = wrong begins_item symbol.End symbol.End (spells_starts [] sp) refl refl
 
 module _ (n : ℕ) (block : Parser Block)

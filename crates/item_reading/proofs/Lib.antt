@@ -5,6 +5,7 @@ pub mod ItemKinds
 pub mod ItemModel
 pub mod ItemParts
 pub mod ItemRests
+pub mod ItemsEnd
 pub mod ItemsRight
 pub mod Parameters
 pub mod ParametersRight

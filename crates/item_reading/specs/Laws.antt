@@ -11,7 +11,7 @@ use Rattle.c_grammar.specs.Symbols.{same_symbol}
 use Rattle.right_reading.specs.ReadSource.{items_at}
 use Rattle.right_reading.specs.Right.{Ends, Right, Reads, always}
 use Rattle.right_reading.specs.RightExpressions.{RightExpressions}
-use Rattle.right_reading.specs.Stream.{Fault, Parser, ◌>>=◌}
+use Rattle.right_reading.specs.Stream.{ahead, Fault, Parser, ◌>>=◌}
 
 -- one item, and those after it
 abbrev pub items_parts : Item × List Item → List Part
@@ -25,6 +25,8 @@ pub record ReadsItems (block : Parser Block) (n : ℕ) (i : List Spot) : Type 0 
   pub read : Result ((Item × List Item) × List Spot) Fault
   pub right : Right items_parts n items_stops [] i read
   pub same : items_at block n i ≡ (read >>= (λ z. Ok (z.0.0 ∷ z.0.1, z.1)))
+  -- they go on up to the end
+  pub ended : (items : List Item) (j : List Spot) → items_at block n i ≡ Ok (items, j) → ahead j ≡ symbol.End
 
 -- items are read rightly where expressions and blocks are
 abbrev pub ItemsAreRead : Type 0

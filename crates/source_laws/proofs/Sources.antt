@@ -58,7 +58,7 @@ goes_on (Gives a s) other one = rw one (before-itself s)
 goes_on (Stops site s) other one = rw one (before-itself s)
 goes_on (Goes s) other one = one
 
-pub turns_only_add : (typed : Typed) (input : List ℤ) (turns more : ℕ) → turns ≤ more → TurnsOnlyAdd typed input turns more
+pub turns_only_add : (typed : Typed) (input : List ℤ) → TurnsOnlyAdd typed input
 turns_only_add typed input turns more most =
     let one : Continues (outcome_of typed input turns) (outcome_of typed input more) = (extends-source typed turns more most).continues (opening typed input) in
     let after : Before (state_after (outcome_of typed input turns)) (state_after (outcome_of typed input more)) = goes_on (outcome_of typed input turns) (outcome_of typed input more) one in

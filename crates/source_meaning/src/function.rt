@@ -1,11 +1,12 @@
 // Functions of the source.
 
-ghost use Rattle.std.specs.Prelude.{◌≡◌, ◌-◌, IfOk, FitsSigned, pos};
+ghost use Rattle.std.specs.Prelude.{◌≡◌, IfOk, FitsSigned};
 ghost use Rattle.std.specs.Int.{w32};
 ghost use Rattle.std.specs.List.{position};
 ghost use Rattle.source_runs.specs.Follows.{Follows};
-ghost use Rattle.typed_meaning.specs.Observed.{returned, body_meaning, is_main};
-ghost use Rattle.source_expressions.specs.Does.{Serves, setting, called};
+ghost use Rattle.typed_meaning.specs.Observed.{returned, is_main};
+ghost use Rattle.source_expressions.specs.Does.{Serves, called};
+ghost use Rattle.source_meaning.specs.Bodies.{body_at};
 
 use c_typed::{TypedBlock, TypedFunction};
 use sat_base::Width;
@@ -32,7 +33,7 @@ fn body<F: Fn(&mut RunState, usize, Items<Given>) -> Result<i32, Halt>>(
     body: &Option<TypedBlock>,
 ) -> Result<Flow, Halt>
     requires { Serves (F.pre calls.now) (F.post calls.now) (called here.now) }
-    ensures { Follows (body_meaning (setting here.now) (called here.now) body.now) result state.old state.new }
+    ensures { Follows (body_at here.now body.now) result state.old state.new }
 {
     match body {
         Some(body) => block(calls, here, state, body),

@@ -1,10 +1,9 @@
 // Whole runs of a source.
 
-ghost use Rattle.std.specs.Prelude.{◌≡◌, ℤ, [], IfOk, OnErr, IsOk};
-ghost use Rattle.source_runs.specs.Runs.{Outcome};
-ghost use Rattle.source_runs.specs.Follows.{Matches, Follows};
-ghost use Rattle.typed_meaning.specs.Observed.{source_run, observation_of, observed};
-ghost use Rattle.source_meaning.specs.Running.{observation_with};
+ghost use Rattle.std.specs.Prelude.{◌≡◌, [], IfOk, OnErr, IsOk};
+ghost use Rattle.source_runs.specs.Follows.{Follows};
+ghost use Rattle.typed_meaning.specs.Observed.{source_run};
+ghost use Rattle.source_meaning.specs.Running.{fresh, IsEndOf, IsObserved};
 
 use crate::function::{function, main_of};
 use c_typed::Typed;
@@ -58,7 +57,7 @@ impl<'a> Model for Runner<'a> {
 
 /// A runner of the source on the input, which has run nothing yet. It takes no memory.
 pub fn start<'a>(alloc: Global, typed: &'a Typed, input: &'a [i16]) -> Result<Runner<'a>, Memory>
-    ensures ready { IfOk result (λ runner. runner ≡ record { source = typed.now; input = input.now; output = [] }) }
+    ensures ready { IfOk result (λ runner. runner ≡ fresh typed.now input.now) }
     ensures ok { IsOk result }
 {
     Ok(Runner {
@@ -87,7 +86,7 @@ fn main_left(alloc: Global, typed: &Typed, turns: u32, state: &mut RunState) -> 
 
 /// How a run ends where `main` is left so, with this kept.
 fn end_of(left: Result<i32, Halt>, state: &RunState) -> Result<RunEnd, Memory>
-    ensures { (outcome : Outcome ℤ) → Matches outcome left state.now → IfOk result (λ end. observation_with end state.now.output ≡ observation_of outcome) }
+    ensures { IfOk result (IsEndOf left state.now) }
 {
     match left {
         Ok(_) => Ok(RunEnd::Ended {
@@ -105,7 +104,7 @@ impl Runner<'_> {
     pub fn run(&mut self, alloc: Global, turns: u32) -> Result<RunEnd, Memory>
         ensures source { self.new.source ≡ self.old.source }
         ensures input { self.new.input ≡ self.old.input }
-        ensures answers { IfOk result (λ end. observation_with end self.new.output ≡ observed self.old.source self.old.input turns) }
+        ensures answers { IfOk result (IsObserved self.old turns self.new) }
         ensures memory { OnErr result (self.new.output ≡ []) }
     {
         self.output = Vec::new(alloc);

@@ -5,7 +5,7 @@ ghost use Rattle.std.specs.Int.{w32};
 ghost use Rattle.std.specs.Option.{option_copied};
 ghost use Rattle.source_runs.specs.Follows.{Follows};
 ghost use Rattle.source_expressions.specs.Does.{Serves, called, statement_at, block_at};
-ghost use Rattle.source_statements.specs.Loops.{condition_at, loop_at, turns_at};
+ghost use Rattle.source_statements.specs.Loops.{tested_at, loop_at, turns_at};
 
 use c_typed::{TypedBlock, TypedExpr, TypedSimple, TypedStmt};
 use source_expressions::{Here, expression};
@@ -37,13 +37,13 @@ fn condition<F: Fn(&mut RunState, usize, Items<Given>) -> Result<i32, Halt>>(
     calls: &F,
     here: &Here<'_>,
     state: &mut RunState,
-    tested: Option<&TypedExpr>,
+    turn: Turn<'_>,
 ) -> Result<i32, Halt>
     requires { Serves (F.pre calls.now) (F.post calls.now) (called here.now) }
-    ensures follows { Follows (condition_at here.now (option_copied tested.entry)) result state.old state.new }
+    ensures follows { Follows (tested_at here.now turn.entry) result state.old state.new }
     ensures fits { IfOk result (FitsSigned w32) }
 {
-    match tested {
+    match turn.condition {
         Some(tested) => expression(calls, here, state, tested),
         None => Ok(1),
     }
@@ -150,7 +150,7 @@ fn looping<F: Fn(&mut RunState, usize, Items<Given>) -> Result<i32, Halt>>(
     requires { Serves (F.pre calls.now) (F.post calls.now) (called here.now) }
     ensures { Follows (loop_at here.now turn.entry body.now) result state.old state.new }
 {
-    if holds(condition(calls, here, state, turn.condition)?) {
+    if holds(condition(calls, here, state, turn)?) {
         turns(calls, here, state, body, turn)
     } else {
         Ok(Flow::Normal)
@@ -176,7 +176,7 @@ fn turns<F: Fn(&mut RunState, usize, Items<Given>) -> Result<i32, Halt>>(
             Flow::Normal | Flow::Continue => {}
         }
         all_simples(calls, here, state, turn.last)?;
-        if !holds(condition(calls, here, state, turn.condition)?) {
+        if !holds(condition(calls, here, state, turn)?) {
             return Ok(Flow::Normal);
         }
     }

@@ -1,5 +1,0 @@
-pub mod Going
-pub mod HeightEquations
-pub mod Loops
-pub mod ReaderEquations
-pub mod StatementLoops

@@ -1,0 +1,2 @@
+pub mod Source_equations
+pub mod Restored

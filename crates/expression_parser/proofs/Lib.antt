@@ -1,0 +1,4 @@
+pub mod HeightEquations
+pub mod ListedArguments
+pub mod Marks
+pub mod ReaderEquations

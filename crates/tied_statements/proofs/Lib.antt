@@ -1,0 +1,2 @@
+pub mod Statement_equations
+pub mod Restored
