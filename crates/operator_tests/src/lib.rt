@@ -6,6 +6,4 @@ mod clips;
 #[cfg(test)]
 mod names;
 #[cfg(test)]
-mod values;
-#[cfg(test)]
 mod weights;

@@ -14,7 +14,7 @@ use Rattle.sat_compile.proofs.Accepted.{one_source, not_shown}
 use Rattle.store_io.specs.Outside.{Files, Rose, IsCalm, IsMissing, files_with, text_with}
 use Rattle.sat_tool.specs.declared.outcome.Outcome.{Outcome}
 use Rattle.sat_tool.specs.Build.{IsUnfit, IsDone}
-use Rattle.sat_tool.specs.Command.{Command, Build, IsCommand}
+use Rattle.sat_tool.specs.Command.{Command, Build, RunImage, IsCommand}
 use Rattle.sat_tool.specs.Commands.{inputs_of}
 use Rattle.sat_tool.specs.Commands as Commands
 use Rattle.sat_tool.specs.Files.{Output}
@@ -25,7 +25,7 @@ use Rattle.sat_tool.specs.Run as run
 use Rattle.sat_tool.specs.Statuses.{status_of, text_of}
 use Rattle.sat_tool.specs.World.{StoreView, SinkView, World}
 
-not_both : (before now : ℕ) → IsCalm before now → Rose before now → ⊥
+pub not_both : (before now : ℕ) → IsCalm before now → Rose before now → ⊥
 not_both before now calm rose = omega (arith, calm, rose)
 
 -- as many entries as sites
@@ -41,17 +41,17 @@ as_many code (site ∷ sites) (treatment ∷ treatments) (entry ∷ entries) are
 -- ---- what is told over a calm sink
 
 -- the status is the outcome's, and its text was put
-record IsTold (outcome : Outcome) (written : List ℕ) (new : SinkView) (status : ℕ) : Type 0 where
-  status_is : status ≡ status_of outcome
-  text_is : (text : List ℕ) → text_of outcome ≡ Some text → new.written ≡ Some (written ++ text)
+pub record IsTold (outcome : Outcome) (written : List ℕ) (new : SinkView) (status : ℕ) : Type 0 where
+  pub status_is : status ≡ status_of outcome
+  pub text_is : (text : List ℕ) → text_of outcome ≡ Some text → new.written ≡ Some (written ++ text)
 
-some_output : (a b : Output) → Some a ≡ Some b → a ≡ b
+pub some_output : (a b : Output) → Some a ≡ Some b → a ≡ b
 some_output a b e = cc
 
 some_same : (a b : List ℕ) (o : Option (List ℕ)) → o ≡ Some a → o ≡ Some b → a ≡ b
 some_same a b o is other = cc
 
-told : (outcome : Outcome) (old new : SinkView) (status : ℕ) (written : List ℕ) → IsCalm old.faults new.faults → old.written ≡ Some written
+pub told : (outcome : Outcome) (old new : SinkView) (status : ℕ) (written : List ℕ) → IsCalm old.faults new.faults → old.written ≡ Some written
     → Tells outcome old new status → (status ≡ 3) ⊎ IsTold outcome written new status
 told outcome old new status written calm is (run.silent none) = inr (record { status_is = refl; text_is = λ text some. absurd (none-some text (sym none ∙ some)) })
 told outcome old new status written calm is (run.put text some grown) =
@@ -67,7 +67,7 @@ data Built (files : Files) (new : StoreView) (text target : List ℕ) (outcome :
   Makes : {output : Output} → IsDone text target (Some output) outcome → new.files ≡ Some (map.insert files output.name output.bytes) → Built files new text target outcome
   Wants : status_of outcome ≡ 3 → Built files new text target outcome
 
-calm_since : (old mid new : ℕ) → old ≤ mid → IsCalm old new → IsCalm mid new
+pub calm_since : (old mid new : ℕ) → old ≤ mid → IsCalm old new → IsCalm mid new
 calm_since old mid new later calm = omega (arith, calm)
 
 module _ (files : Files) (name target text : List ℕ) (held : map.get files name ≡ Some text) where
@@ -109,6 +109,7 @@ module _ (files : Files) (name target text : List ℕ) (held : map.get files nam
 -- the words ask for nothing else
 one_command : (words : List (List ℕ)) (name target : List ℕ) (command : Command) → IsCommand words command → IsCommand words (Build name target) → command ≡ Build name target
 one_command words name target (Build s t) is asked = let a = is.0 in let b = asked.0 in cc
+one_command words name target (RunImage image input output steps) is asked = let a = is.are in let b = asked.0 in cc
 
 -- ---- the two promises
 

@@ -1,3 +1,6 @@
+pub mod Digits
 pub mod Fronts
 pub mod Headline
+pub mod RunHeadline
+pub mod Running
 pub mod Serving

@@ -5,8 +5,13 @@ pub mod Files
 pub mod Gathered
 pub mod Headline
 pub mod Lines
+pub mod Numbers
 pub mod Outcomes
+pub mod Reading
 pub mod Run
+pub mod RunHeadline
+pub mod RunImage
+pub mod RunLines
 pub mod Statuses
 pub mod Words
 pub mod World

@@ -22,3 +22,6 @@ cannot_read_line name = codes "cannot read " ++ name ++ line_feed
 
 abbrev pub cannot_write_line : List ℕ → List ℕ
 cannot_write_line name = codes "cannot write " ++ name ++ line_feed
+
+abbrev pub going_line : List ℕ
+going_line = codes "going" ++ line_feed

@@ -4,7 +4,10 @@
 mod build;
 mod files;
 pub mod gathered;
+mod numbers;
 mod outcome;
+mod run_image;
+mod run_lines;
 pub mod top_call;
 mod words;
 

@@ -25,6 +25,14 @@ pub enum Outcome {
     NoMemory,
     /// A file could not be used.
     Unusable(Text),
+    /// The run stopped at a site.
+    Stopped(Text),
+    /// The run goes on at its number.
+    Going,
+    /// A file is not what the command asks for.
+    Unfit(Text),
+    /// The machine faulted.
+    Faulted(Text),
 }
 
 impl Outcome {
@@ -41,6 +49,10 @@ impl Outcome {
             Outcome::NoCommand => 2,
             Outcome::NoMemory => 3,
             Outcome::Unusable(_) => 4,
+            Outcome::Stopped(_) => 5,
+            Outcome::Going => 6,
+            Outcome::Unfit(_) => 7,
+            Outcome::Faulted(_) => 8,
         }
     }
 
@@ -50,11 +62,15 @@ impl Outcome {
     {
         match self {
             Outcome::Done(None) => None,
-            Outcome::Done(Some(text)) | Outcome::Refused(text) | Outcome::Unusable(text) => {
-                Some(text.as_slice())
-            }
+            Outcome::Done(Some(text))
+            | Outcome::Refused(text)
+            | Outcome::Unusable(text)
+            | Outcome::Stopped(text)
+            | Outcome::Unfit(text)
+            | Outcome::Faulted(text) => Some(text.as_slice()),
             Outcome::NoCommand => Some(b"usage: satc build SRC IMG\n"),
             Outcome::NoMemory => Some(b"out of memory\n"),
+            Outcome::Going => Some(b"going\n"),
         }
     }
 }
@@ -121,7 +137,8 @@ pub fn refusal_line(alloc: Global, refusal: CompileRefusal) -> Result<Text, Allo
     Ok(text(line))
 }
 
-fn text(line: String) -> Text
+/// The text of a line.
+pub fn text(line: String) -> Text
     ensures { result ≡ string_bytes line }
 {
     Items::from_vec(line.into_bytes())

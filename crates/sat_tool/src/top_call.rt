@@ -2,6 +2,7 @@
 
 ghost use Rattle.std.specs.Prelude.{◌≤◌, [], map, string_bytes};
 ghost use Rattle.sat_tool.specs.Headline.{BuildsAccepted, RefusesOthers};
+ghost use Rattle.sat_tool.specs.RunHeadline.{RunsImages};
 ghost use Rattle.sat_tool.specs.Outcomes.{InAnyCase};
 ghost use Rattle.sat_tool.specs.Run.{Course, Comes, Tells, IsRun};
 ghost use Rattle.sat_tool.specs.Commands.{inputs_of};
@@ -10,6 +11,7 @@ ghost use Rattle.sat_tool.specs.World.{store_view, sink_view, world};
 
 use crate::build::build;
 use crate::outcome::Outcome;
+use crate::run_image::run_image;
 use crate::words::{Command, command_of};
 use std::alloc::Global;
 use store_io::{PutFail, Sink, Store};
@@ -18,8 +20,8 @@ use store_io::{PutFail, Sink, Store};
 const SINK_FAILED: u8 = 9;
 
 /// Does what the words ask for, puts its text to the sink, if it has one, and answers the exit status: 0 done, 1 the
-/// source is not accepted, 2 the words are no command, 3 want of memory, 4 a file could not be used, 9 the sink
-/// failed. Until the one write nothing has changed in the store.
+/// source is not accepted, 2 the words are no command, 3 want of memory, 4 a file could not be used, 5 the run
+/// stopped, 6 it goes on at its number, 7 a file is not what the command asks for, 8 the machine faulted, 9 the sink failed. Until the one write nothing has changed in the store.
 pub fn satc<S: Store, K: Sink>(alloc: Global, words: &[String], store: &mut S, out: &mut K) -> u8
     // Whatever the store and the sink do, each status has its cause, and each text is that of its outcome.
     ensures run { IsRun (map string_bytes words.now)
@@ -31,6 +33,11 @@ pub fn satc<S: Store, K: Sink>(alloc: Global, words: &[String], store: &mut S, o
         (world (S.files store.old) (S.faults store.old) (K.written out.old) (K.faults out.old))
         (world (S.files store.new) (S.faults store.new) (K.written out.new) (K.faults out.new)) result }
     ensures refused { RefusesOthers (map string_bytes words.now)
+        (world (S.files store.old) (S.faults store.old) (K.written out.old) (K.faults out.old))
+        (world (S.files store.new) (S.faults store.new) (K.written out.new) (K.faults out.new)) result }
+
+    // And an image that can be read is run on samples that can be: output, status and line are those that are observed.
+    ensures ran { RunsImages (map string_bytes words.now)
         (world (S.files store.old) (S.faults store.old) (K.written out.old) (K.faults out.old))
         (world (S.files store.new) (S.faults store.new) (K.written out.new) (K.faults out.new)) result }
 {
@@ -61,6 +68,7 @@ fn serve<S: Store>(alloc: Global, store: &mut S, command: Command<'_>) -> Result
 {
     match command {
         Command::Build { source, image } => build(alloc, store, source, image),
+        Command::RunImage { files, steps } => run_image(alloc, store, files, steps),
     }
 }
 

@@ -5,6 +5,7 @@ ghost use Rattle.template_runs.specs.Renaming.{IsPlace};
 
 use crate::run::ran;
 use crate::spelled::{form_of, guard_of, kind_of, regs_of};
+use crate::value::value_of;
 use operator_lowering::{Regs, Words, template};
 use std::alloc::{AllocError, Global};
 
@@ -15,9 +16,13 @@ struct Site {
     words: Words,
 }
 
-/// The answer to a line `KIND FORM GUARD NUMBER; REGISTERS; NUMBERS; OVERFLOW; SAMPLES`: the registers of the result and of
-/// the operands, the numbers that the operands have, Overflow before, and the samples that are left.
+/// The answer to a line `value OPERATOR NUMBERS`, or `KIND FORM GUARD NUMBER; REGISTERS; NUMBERS; OVERFLOW; SAMPLES`: the
+/// registers of the result and of the operands, the numbers that the operands have, Overflow before, and the samples that
+/// are left.
 pub fn answer_to(alloc: Global, line: &str) -> Result<String, AllocError> {
+    if let Some(("value", text)) = line.split_once(' ') {
+        return value_of(alloc, text);
+    }
     let mut parts = line.split(';');
     let spelled = parts.next().unwrap_or("");
     let registers = parts.next().unwrap_or("");

@@ -5,6 +5,7 @@
 mod case;
 mod run;
 mod spelled;
+mod value;
 
 use std::io;
 
