@@ -1,2 +1,3 @@
 pub mod Source_equations
 pub mod Restored
+pub mod Sorted_once

@@ -1,3 +1,4 @@
 pub mod Orders
 pub mod Calls
 pub mod Definitions
+pub mod Reaching

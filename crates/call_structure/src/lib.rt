@@ -5,6 +5,7 @@ pub mod callers_first;
 mod definitions;
 pub mod functions;
 mod graph;
+pub mod laws;
 pub mod refusal;
 
 pub use callers_first::order;

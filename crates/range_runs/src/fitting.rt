@@ -1,6 +1,7 @@
-// Whether ranges can be the operands of an operator.
+// Whether ranges can be the operands of an operator, or of plain arithmetic.
 
 ghost use Rattle.std.specs.Prelude.{◌↔◌, IsTrue};
+ghost use Rattle.range_core.specs.Range.{IsRange};
 ghost use Rattle.operator_meaning.specs.Table.{row_of};
 ghost use Rattle.range_transfer.specs.Box.{FitsRange, FitRanges};
 
@@ -19,6 +20,13 @@ fn fits(width: Width, range: Range) -> bool
         Width::W16 => lo <= hi && -32_768 <= lo && hi <= 32_767,
         Width::W32 => lo <= hi && -2_147_483_648 <= lo && hi <= 2_147_483_647,
     }
+}
+
+/// Whether the range is empty or has its ends in order and in 32 bits.
+pub fn is_range(range: Range) -> bool
+    ensures { IsTrue result → IsRange range }
+{
+    fits(Width::W32, range)
 }
 
 /// Whether there are as many ranges as operands, each empty or in its width.
