@@ -7,5 +7,5 @@ pub mod items;
 mod laws;
 mod tying;
 
-pub use laws::one_typed;
+pub use laws::{numbers_are_places, one_typed};
 pub use tying::typed;
