@@ -5,6 +5,7 @@ pub mod Evaluation
 pub mod Expressions
 pub mod Leads
 pub mod Nesting
+pub mod OneTyped
 pub mod Operators
 pub mod Readable
 pub mod Simulation
