@@ -16,17 +16,24 @@ use statement_parser::block;
 use std::alloc::Global;
 use token_reader::{Reader, listed};
 
-/// The function of this name, from its parameters on. Its body has at most this height.
+/// What stands before the parameters of a function.
+#[derive(Drop)]
+pub(crate) struct FunctionHead {
+    pub(crate) quals: Qualifiers,
+    /// The width of what it gives, unless that is nothing.
+    pub(crate) gives: Option<Width>,
+    pub(crate) name: Named,
+}
+
+/// The function that begins so, from its parameters on. Its body has at most this height.
 #[tactic(auto, unfolding(right_reading::specs::ReadSource::function_at, right_reading::specs::ReadSource::body_at))]
 pub(crate) fn function(
     alloc: Global,
     reader: &mut Reader<'_>,
-    quals: Qualifiers,
-    gives: Option<Width>,
-    name: Named,
+    head: FunctionHead,
     limit: u32,
 ) -> Result<Function, ReadRefusal>
-    ensures { Gives (function_at (block_with objects_at limit) limit quals gives name reader.old) result reader.new }
+    ensures { Gives (function_at (block_with objects_at limit) limit head.quals head.gives head.name reader.old) result reader.new }
 {
     reader.take(Symbol::OpenParen)?;
     let params = params(alloc, reader, limit)?;
@@ -37,12 +44,12 @@ pub(crate) fn function(
         Some(block(alloc, reader, limit)?)
     };
     Ok(Function {
-        at: quals.at,
-        name,
-        gives,
+        at: head.quals.at,
+        name: head.name,
+        gives: head.gives,
         params,
         body,
-        is_static: quals.is_static,
+        is_static: head.quals.is_static,
     })
 }
 

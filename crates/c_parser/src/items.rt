@@ -8,7 +8,7 @@ ghost use Rattle.right_reading.specs.ReadStatements.{block_with};
 ghost use Rattle.token_reader.specs.Gives.{Gives};
 ghost use Rattle.c_parser.specs.GivesAll.{GivesAll};
 
-use crate::functions::function;
+use crate::functions::{FunctionHead, function};
 use c_grammar::{ReadRefusal, Spot, Symbol};
 use c_tree::Item;
 use declaration_parser::{declarator, named_declarator, objects_from, qualifiers};
@@ -42,8 +42,12 @@ fn item(alloc: Global, reader: &mut Reader<'_>, limit: u32) -> Result<Item, Read
     }
     let quals = qualifiers(reader);
     if !quals.is_const && reader.pass_if(Symbol::Void) {
-        let name = reader.name(alloc)?;
-        return Ok(Item::Function(function(alloc, reader, quals, None, name, limit)?));
+        let head = FunctionHead {
+            quals,
+            gives: None,
+            name: reader.name(alloc)?,
+        };
+        return Ok(Item::Function(function(alloc, reader, head, limit)?));
     }
     typed_item(alloc, reader, quals, limit)
 }
@@ -66,8 +70,12 @@ fn typed_item(
     }
     let name = reader.name(alloc)?;
     if reader.ahead().is(Symbol::OpenParen) && !quals.is_const {
-        let function = function(alloc, reader, quals, Some(width), name, limit)?;
-        return Ok(Item::Function(function));
+        let head = FunctionHead {
+            quals,
+            gives: Some(width),
+            name,
+        };
+        return Ok(Item::Function(function(alloc, reader, head, limit)?));
     }
     let first = named_declarator(alloc, reader, specifiers, name, limit)?;
     Ok(Item::Objects(objects_from(alloc, reader, specifiers, first, limit)?))

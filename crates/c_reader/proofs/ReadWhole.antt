@@ -20,11 +20,11 @@ use Rattle.right_reading.specs.ReadStatements.{block_with}
 use Rattle.c_grammar.specs.Spelling as parts
 use Rattle.c_grammar.specs.Spots.{Spot, spots_of, end_of}
 use Rattle.right_reading.specs.Stream.{ahead, Fault}
-use Rattle.right_reading.proofs.Dependent.{seen_by}
+use Rattle.right_reading.proofs.Composed.Dependent.{seen_by}
 use Rattle.c_grammar.proofs.Depths.{program_depth}
 use Rattle.c_grammar.proofs.ProgramDepths.{some_of}
 use Rattle.item_reading.specs.Laws.{ReadsItems}
-use Rattle.right_reading.proofs.Many.{front_of}
+use Rattle.right_reading.proofs.Lists.Many.{front_of}
 use Rattle.c_reader.proofs.Numbers.{ends-last}
 use Rattle.c_reader.proofs.SourceRight.{source_right}
 use Rattle.c_reader.proofs.Whole.{ItemsRight, all_read, syntax_fault, too_deep, same_items}

@@ -1,2 +1,4 @@
 pub mod Source_equations
 pub mod Restored
+pub mod Sorted_once
+pub mod Rising

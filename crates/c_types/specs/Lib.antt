@@ -1,3 +1,4 @@
 pub mod Tied
 pub mod Sources
 pub mod Constants
+pub mod Laws

@@ -64,11 +64,11 @@ parameters_of here function (param ∷ params) = record {
   after = (parameters_of (after_parameter here function param) function params).after;
 }
 
-abbrev number_or : Option ℕ → ℕ → ℕ
+abbrev pub number_or : Option ℕ → ℕ → ℕ
 number_or None next = next
 number_or (Some number) next = number
 
-abbrev functions_or : Option ℕ → List TypedFunction → Function → List TypedFunction
+abbrev pub functions_or : Option ℕ → List TypedFunction → Function → List TypedFunction
 functions_or None functions function = functions ++ declared function ∷ []
 functions_or (Some number) functions function = functions
 
@@ -102,7 +102,7 @@ after_definition s number function body = record {
   notes = s.notes ++ (body_of s number function body).notes;
 }
 
-abbrev after_body : Source → ℕ → Function → Option Block → Source
+abbrev pub after_body : Source → ℕ → Function → Option Block → Source
 after_body s number function None = s
 after_body s number function (Some body) = after_definition s number function body
 

@@ -1,6 +1,7 @@
 -- A source whose names are tied, and the fault that is told of a source that has one.
 use Rattle.std.specs.Prelude.{◌≡◌, ℕ, List, [], map, Some, None, ◌⊎◌}
-use Rattle.std.specs.List.Sorted.{IsPermutation, IsNonDecreasingBy}
+use Rattle.std.specs.List.Sorted.{IsPermutation, IsNonDecreasingBy, IsStableByKey}
+use Rattle.std.specs.Ordering.{nat_cmp}
 use Rattle.sat_base.specs.declared.fault.Fault.{Fault}
 use Rattle.sat_base.specs.declared.fault.FaultKind.TheVariants.{Memory}
 use Rattle.c_tree.specs.declared.program.Program.{Program}
@@ -23,11 +24,12 @@ notes_of program = (tied_source program.items [] []).notes
 abbrev pub source_with : Program → List ℕ → Source
 source_with program tokens = tied_source program.items tokens (exposed_in [] (notes_of program))
 
--- The sites stand in the order of their tokens, and have their numbers by it. All else follows from the tree and
--- from these numbers.
+-- The sites stand in the order of their tokens, and have their numbers by it; sites of one token, which no source has,
+-- would stand in the order of the tree. All else follows from the tree and from these numbers.
 pub record IsTied (program : Program) (typed : Typed) : Type 0 where
   pub sites : IsPermutation (sites_in (notes_of program)) typed.sites
   pub in_order : IsNonDecreasingBy token_of typed.sites
+  pub stable : IsStableByKey token_of nat_cmp (sites_in (notes_of program)) typed.sites
   pub objects : typed.objects ≡ (source_with program (map token_of typed.sites)).here.objects
   pub functions : typed.functions ≡ (source_with program (map token_of typed.sites)).functions
   pub constants : typed.constants ≡ constants_of (seen_of program)

@@ -4,6 +4,8 @@
 
 mod constants;
 pub mod items;
+mod laws;
 mod tying;
 
+pub use laws::{numbers_are_places, one_typed};
 pub use tying::typed;

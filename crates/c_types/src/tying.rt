@@ -1,7 +1,8 @@
 // A source whose names are tied.
 
 ghost use Rattle.std.specs.Prelude.{◌≡◌, IfOk, IfErr};
-ghost use Rattle.std.specs.List.Sorted.{IsPermutation, IsNonDecreasingBy};
+ghost use Rattle.std.specs.List.Sorted.{IsPermutation, IsNonDecreasingBy, IsStableByKey};
+ghost use Rattle.std.specs.Ordering.{nat_cmp};
 ghost use Rattle.tied_names.specs.Numbers.{sites_in, token_of};
 ghost use Rattle.c_types.specs.Sources.{tied_source};
 ghost use Rattle.c_types.specs.Tied.{IsTied, IsTyped, IsRefused, out_of_memory, AreParts};
@@ -49,6 +50,7 @@ fn parts_of(alloc: Global, program: &Program, facts: &Facts) -> Result<Parts, Me
 fn sites_of(alloc: Global, notes: &[Note]) -> Result<Vec<Site>, Memory>
     ensures same { IfOk result (λ sites. IsPermutation (sites_in notes.now) sites.items) }
     ensures in_order { IfOk result (λ sites. IsNonDecreasingBy token_of sites.items) }
+    ensures stable { IfOk result (λ sites. IsStableByKey token_of nat_cmp (sites_in notes.now) sites.items) }
 {
     let mut sites = Vec::new(alloc);
     for note in notes {

@@ -12,14 +12,14 @@ use Rattle.c_grammar.specs.Spelling as spelling
 use Rattle.c_grammar.specs.Spots.{Spot}
 use Rattle.right_reading.specs.Stream.{ahead, rest, Fault, Parser, ◌>>=◌}
 use Rattle.c_grammar.specs.Symbols.{same_symbol}
-use Rattle.right_reading.proofs.Alternatives.{by_seen, ahead_is, follows_token, follows_nothing, alternative, nothing_right, word_then, ends_after}
-use Rattle.right_reading.proofs.Dependent.{then_right, then_read, seen_by, read_as}
-use Rattle.right_reading.proofs.Endings.{word_after, then_word}
+use Rattle.right_reading.proofs.Composed.Alternatives.{by_seen, ahead_is, follows_token, follows_nothing, alternative, nothing_right, word_then, ends_after}
+use Rattle.right_reading.proofs.Composed.Dependent.{then_right, then_read, seen_by, read_as}
+use Rattle.right_reading.proofs.OneToken.Endings.{word_after, then_word}
 use Rattle.right_reading.specs.Right.{first, Ends, Stops, Right, always, Reads}
 use Rattle.c_grammar.proofs.Sequences.{from_token, from_nothing}
-use Rattle.right_reading.proofs.Steps.{Seen}
+use Rattle.right_reading.proofs.Composed.Steps.{Seen}
 use Rattle.c_grammar.proofs.SymbolNumbers.{same-is, other-is}
-use Rattle.right_reading.proofs.Tokens.{Right-if, ahead-same}
+use Rattle.right_reading.proofs.OneToken.Tokens.{Right-if, ahead-same}
 
 -- what follows the first: each of these after a comma, and maybe one more comma
 abbrev pub tail_parts : {X : Type 0} → (X → Node) → List X → Bool → List Part

@@ -19,16 +19,16 @@ use Rattle.c_grammar.specs.Spelling.{Spells}
 use Rattle.c_grammar.specs.Spots.{Spot}
 use Rattle.right_reading.specs.Stream.{ahead, ◌>>=◌, both, take_at, name_at}
 use Rattle.c_grammar.specs.Symbols.{same_symbol}
-use Rattle.right_reading.proofs.Alternatives.{by_seen}
+use Rattle.right_reading.proofs.Composed.Alternatives.{by_seen}
 use Rattle.declaration_reading.proofs.Dimensions.{no_bracket, dimensions_right}
-use Rattle.right_reading.proofs.Endings.{fused, rule_ahead}
+use Rattle.right_reading.proofs.OneToken.Endings.{fused, rule_ahead}
 use Rattle.declaration_reading.proofs.Initialisers.{stops_start, ends_name, start_begins, start_right, view_start_right}
 use Rattle.right_reading.specs.Right.{first, Ends, Stops, Right, always, Reads}
 use Rattle.right_reading.specs.RightExpressions.{RightExpressions}
-use Rattle.right_reading.proofs.Rules.{Chosen, no_parts, early_seen}
-use Rattle.right_reading.proofs.Steps.{Right-both}
+use Rattle.right_reading.proofs.Composed.Rules.{Chosen, no_parts, early_seen}
+use Rattle.right_reading.proofs.Composed.Steps.{Right-both}
 use Rattle.c_grammar.proofs.SymbolNumbers.{same-is, other-is}
-use Rattle.right_reading.proofs.Tokens.{Right-if, take_right, name_right, no_name}
+use Rattle.right_reading.proofs.OneToken.Tokens.{Right-if, take_right, name_right, no_name}
 use Rattle.c_grammar.proofs.SymbolSets.{among}
 
 abbrev pub spec : At → (is_static is_const : Bool) → Width → Specifiers

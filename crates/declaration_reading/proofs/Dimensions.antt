@@ -16,16 +16,16 @@ use Rattle.c_grammar.specs.Spelling.{Spells}
 use Rattle.c_grammar.specs.Spots.{Spot}
 use Rattle.right_reading.specs.Stream.{ahead, ◌>>=◌, both, take_at}
 use Rattle.c_grammar.specs.Symbols.{same_symbol, begins_expression}
-use Rattle.right_reading.proofs.Alternatives.{by_seen, alternative, nothing_right, no_node, word_right, ahead_is}
-use Rattle.right_reading.proofs.Begins.{dimension_begins, spells_starts}
-use Rattle.right_reading.proofs.Endings.{stricter, rule_nothing}
+use Rattle.right_reading.proofs.Composed.Alternatives.{by_seen, alternative, nothing_right, no_node, word_right, ahead_is}
+use Rattle.right_reading.proofs.Ahead.Begins.{dimension_begins, spells_starts}
+use Rattle.right_reading.proofs.OneToken.Endings.{stricter, rule_nothing}
 use Rattle.right_reading.specs.Right.{first, Ends, Stops, Right, always, Reads}
 use Rattle.right_reading.specs.RightExpressions.{RightExpressions}
-use Rattle.right_reading.proofs.Rules.{Chosen, no_parts, early_seen, token-ahead}
+use Rattle.right_reading.proofs.Composed.Rules.{Chosen, no_parts, early_seen, token-ahead}
 use Rattle.c_grammar.proofs.Sequences.{from_nothing}
-use Rattle.right_reading.proofs.Steps.{Right-both}
+use Rattle.right_reading.proofs.Composed.Steps.{Right-both}
 use Rattle.c_grammar.proofs.SymbolNumbers.{same-is, other-is}
-use Rattle.right_reading.proofs.Tokens.{Right-if, take_right, ahead-same}
+use Rattle.right_reading.proofs.OneToken.Tokens.{Right-if, take_right, ahead-same}
 use Rattle.std.proofs.lemmas.List.{append_assoc}
 use Rattle.right_reading.specs.Stops.{ends_expression, stops_expression}
 

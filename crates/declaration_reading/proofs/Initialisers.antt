@@ -20,17 +20,17 @@ use Rattle.c_grammar.specs.Spelling.{Spells, whole}
 use Rattle.c_grammar.specs.Spots.{Spot}
 use Rattle.right_reading.specs.Stream.{ahead, rest, Fault, both}
 use Rattle.c_grammar.specs.Symbols.{same_symbol, begins_expression}
-use Rattle.right_reading.proofs.Alternatives.{by_seen, no_node, word_right, word_then, ends_after, ahead_is, follows_nothing}
-use Rattle.right_reading.proofs.Begins.{row_begins, spells_starts}
+use Rattle.right_reading.proofs.Composed.Alternatives.{by_seen, no_node, word_right, word_then, ends_after, ahead_is, follows_nothing}
+use Rattle.right_reading.proofs.Ahead.Begins.{row_begins, spells_starts}
 use Rattle.declaration_reading.proofs.Braced.{Tail, tail_parts, tail_true, tail_false, front_of, closes, braced_as, closed_at, closed_right, closed_is}
-use Rattle.right_reading.proofs.Dependent.{seen_by}
-use Rattle.right_reading.proofs.Endings.{then_word, seen_twice, rule_ahead, rule_nothing, rule_next, two_words_then, early_token, nothing_ahead}
+use Rattle.right_reading.proofs.Composed.Dependent.{seen_by}
+use Rattle.right_reading.proofs.OneToken.Endings.{then_word, seen_twice, rule_ahead, rule_nothing, rule_next, two_words_then, early_token, nothing_ahead}
 use Rattle.right_reading.specs.Right.{first, Ends, Stops, Right, always, Reads}
 use Rattle.right_reading.specs.RightExpressions.{RightExpressions}
-use Rattle.right_reading.proofs.Rules.{Chosen, no_parts, early_seen, symbol_of_token}
-use Rattle.right_reading.proofs.Steps.{Right-both}
+use Rattle.right_reading.proofs.Composed.Rules.{Chosen, no_parts, early_seen, symbol_of_token}
+use Rattle.right_reading.proofs.Composed.Steps.{Right-both}
 use Rattle.c_grammar.proofs.SymbolNumbers.{same-is, other-is}
-use Rattle.right_reading.proofs.Tokens.{Right-if, ahead-same}
+use Rattle.right_reading.proofs.OneToken.Tokens.{Right-if, ahead-same}
 use Rattle.right_reading.specs.Stops.{ends_expression, stops_expression}
 use Rattle.c_grammar.proofs.SymbolSets.{among}
 

@@ -16,19 +16,19 @@ use Rattle.right_reading.specs.ReadDeclarations.{word_at, specifiers_at, view_of
 use Rattle.c_grammar.specs.Spelling.{Spells}
 use Rattle.c_grammar.specs.Spots.{Spot}
 use Rattle.right_reading.specs.Stream.{ahead, Fault, ◌>>=◌}
-use Rattle.right_reading.proofs.Alternatives.{by_seen}
-use Rattle.right_reading.proofs.Begins.{begins_declarator, spells_starts}
+use Rattle.right_reading.proofs.Composed.Alternatives.{by_seen}
+use Rattle.right_reading.proofs.Ahead.Begins.{begins_declarator, spells_starts}
 use Rattle.declaration_reading.proofs.Declarators.{spec, declarator_right}
-use Rattle.right_reading.proofs.Dependent.{then_right, then_read, seen_by}
-use Rattle.right_reading.proofs.Endings.{fused, word_after, then_word}
+use Rattle.right_reading.proofs.Composed.Dependent.{then_right, then_read, seen_by}
+use Rattle.right_reading.proofs.OneToken.Endings.{fused, word_after, then_word}
 use Rattle.declaration_reading.proofs.Initialisers.{ends_start}
-use Rattle.right_reading.proofs.Listed.{ends_list, ends_one, listed_right}
-use Rattle.right_reading.proofs.Many.{many-more}
+use Rattle.right_reading.proofs.Lists.Listed.{ends_list, ends_one, listed_right}
+use Rattle.right_reading.proofs.Lists.Many.{many-more}
 use Rattle.right_reading.specs.Right.{first, Ends, Stops, Right, always, Reads}
 use Rattle.right_reading.specs.RightExpressions.{RightExpressions}
-use Rattle.right_reading.proofs.Rules.{Chosen, no_parts, early_seen}
+use Rattle.right_reading.proofs.Composed.Rules.{Chosen, no_parts, early_seen}
 use Rattle.declaration_reading.proofs.Specifiers.{specifiers_node, specifiers_right}
-use Rattle.right_reading.proofs.Tokens.{no_name, nowhere}
+use Rattle.right_reading.proofs.OneToken.Tokens.{no_name, nowhere}
 use Rattle.right_reading.specs.Stops.{no_int}
 use Rattle.c_grammar.proofs.SymbolSets.{among}
 

@@ -19,16 +19,16 @@ use Rattle.c_grammar.specs.Spelling.{Spells}
 use Rattle.c_grammar.specs.Spots.{Spot, here}
 use Rattle.right_reading.specs.Stream.{ahead, rest, Fault}
 use Rattle.c_grammar.specs.Symbols.{same_symbol, width_of, begins_type}
-use Rattle.right_reading.proofs.Alternatives.{by_seen, alternative, nothing_right, ends_after, ahead_is, token_then, after_word}
-use Rattle.right_reading.proofs.Begins.{spells_starts}
-use Rattle.right_reading.proofs.Dependent.{then_right, then_read, seen_by}
-use Rattle.right_reading.proofs.Endings.{fused}
+use Rattle.right_reading.proofs.Composed.Alternatives.{by_seen, alternative, nothing_right, ends_after, ahead_is, token_then, after_word}
+use Rattle.right_reading.proofs.Ahead.Begins.{spells_starts}
+use Rattle.right_reading.proofs.Composed.Dependent.{then_right, then_read, seen_by}
+use Rattle.right_reading.proofs.OneToken.Endings.{fused}
 use Rattle.right_reading.specs.Right.{first, Ends, Stops, Right, Reads}
 use Rattle.right_reading.specs.RightExpressions.{RightExpressions}
-use Rattle.right_reading.proofs.Rules.{Chosen, no_parts, early_seen}
+use Rattle.right_reading.proofs.Composed.Rules.{Chosen, no_parts, early_seen}
 use Rattle.c_grammar.proofs.Sequences.{from_nothing}
 use Rattle.c_grammar.proofs.SymbolNumbers.{same-is, other-is}
-use Rattle.right_reading.proofs.Tokens.{ahead-same, nowhere}
+use Rattle.right_reading.proofs.OneToken.Tokens.{ahead-same, nowhere}
 use Rattle.right_reading.specs.Stops.{no_int}
 use Rattle.c_grammar.proofs.SymbolSets.{among}
 

@@ -1,4 +1,3 @@
 pub mod HeightEquations
-pub mod ListedArguments
 pub mod Marks
 pub mod ReaderEquations

@@ -39,7 +39,7 @@ pub fn arguments(
 
 /// One argument or more, separated by commas.
 #[cycle(expressions)]
-#[tactic(auto, using(crate::proofs::HeightEquations::one_more_argument), unfolding(right_reading::specs::ReadExpressions::listed_by, right_reading::specs::ReadExpressions::more_arguments))]
+#[tactic(auto, using(crate::proofs::HeightEquations::one_more_argument), unfolding(right_reading::specs::ReadExpressions::listed_by, right_reading::specs::Lists::many))]
 fn listed_arguments(
     alloc: Global,
     reader: &mut Reader<'_>,
@@ -51,7 +51,7 @@ fn listed_arguments(
     let mut height = first.height;
     let mut args = Items::new(alloc);
     args.push(first.tree)?;
-    for _turn in 0..reader.left() {
+    for _turn in 0..reader.turns() {
         if !reader.pass_if(Symbol::Comma) {
             return Ok(Measured { tree: args, height });
         }

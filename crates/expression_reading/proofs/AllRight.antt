@@ -9,13 +9,13 @@ use Rattle.c_grammar.specs.Parts.{node}
 use Rattle.right_reading.specs.ReadExpressions.{readers, expression_at, type_at}
 use Rattle.right_reading.specs.Right.{Reads}
 use Rattle.right_reading.specs.Stops.{no_int}
-use Rattle.right_reading.proofs.Endings.{stricter}
+use Rattle.right_reading.proofs.OneToken.Endings.{stricter}
 use Rattle.expression_reading.specs.Laws.{ExpressionsAreRead}
-use Rattle.expression_reading.proofs.Arguments.{arguments_right}
-use Rattle.expression_reading.proofs.Indices.{index_right}
-use Rattle.expression_reading.proofs.Places.{place_right}
-use Rattle.expression_reading.proofs.ReadersRight.{readers_right, expression_right, arg_right}
-use Rattle.expression_reading.proofs.Types.{type_right, stops_type}
+use Rattle.expression_reading.proofs.Parts.Arguments.{arguments_right}
+use Rattle.expression_reading.proofs.Parts.Indices.{index_right}
+use Rattle.expression_reading.proofs.Parts.Places.{place_right}
+use Rattle.expression_reading.proofs.ByLimit.ReadersRight.{readers_right, expression_right, arg_right}
+use Rattle.expression_reading.proofs.Parts.Types.{type_right, stops_type}
 
 looser_type : (x : At × Width) (s : Symbol) → no_int s ≡ true → stops_type x s ≡ true
 looser_type x symbol.IntWord e = e

@@ -1,7 +1,7 @@
 -- Items are read rightly, whatever the limit.
 use Rattle.item_reading.specs.Laws.{ItemsAreRead}
-use Rattle.item_reading.proofs.ItemsEnd.{items_end}
-use Rattle.item_reading.proofs.ItemsRight.{item_right, items_are, items_right, read_items}
+use Rattle.item_reading.proofs.Items.ItemsEnd.{items_end}
+use Rattle.item_reading.proofs.Items.ItemsRight.{item_right, items_are, items_right, read_items}
 
 pub items_are_read : ItemsAreRead
 items_are_read n block right block_right i ends = record {

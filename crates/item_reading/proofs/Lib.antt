@@ -1,11 +1,3 @@
 pub mod AllRight
-pub mod Becoming
-pub mod Functions
-pub mod ItemKinds
-pub mod ItemModel
-pub mod ItemParts
-pub mod ItemRests
-pub mod ItemsEnd
-pub mod ItemsRight
-pub mod Parameters
-pub mod ParametersRight
+pub mod FunctionParts
+pub mod Items

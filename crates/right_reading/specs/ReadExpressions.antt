@@ -1,6 +1,6 @@
--- What the methods read that read expressions, places and calls. The limit of a method is how many nodes may
+-- What the functions read that read expressions, places and calls. The limit of a function is how many nodes may
 -- stand below one another in what it reads.
-use Rattle.std.specs.Prelude.{ℕ, zero, suc, ◌+◌, nat_le, ◌==◌, not, ◌&&◌, ◌||◌, if◌then◌else◌, List, [], ◌∷◌, ◌++◌, length, Option, Some, None, Ok}
+use Rattle.std.specs.Prelude.{ℕ, zero, suc, ◌+◌, nat_le, ◌==◌, not, ◌&&◌, ◌||◌, if◌then◌else◌, List, [], length, Option, Some, None, Ok}
 use Rattle.sat_base.specs.declared.name.At.{At}
 use Rattle.sat_base.specs.declared.name.Named.{Named}
 use Rattle.c_tree.specs.declared.call.Arg.{Arg}
@@ -18,6 +18,7 @@ use Rattle.sat_base.specs.declared.width.Width.{Width}
 use Rattle.c_grammar.specs.declared.symbol.Symbol.{Symbol}
 use Rattle.c_grammar.specs.declared.symbol.Symbol.TheVariants as symbol
 use Rattle.c_grammar.specs.Marks.{rank_of}
+use Rattle.right_reading.specs.Lists.{listed_at}
 use Rattle.c_grammar.specs.Spots.{Spot, here}
 use Rattle.right_reading.specs.Stream.{ahead, rest, Parser, ◌>>=◌, both, mapped, take_at, name_at, number_at, syntax_at, too_deep_at, refuse_at}
 use Rattle.c_grammar.specs.Symbols.{same_symbol, binary_mark, unary_mark, width_of, begins_type, begins_expression}
@@ -88,15 +89,8 @@ argument_by r i =
     if same_symbol (ahead i) symbol.And then mapped (λ p. arg.Address (here i) p) r.named (rest i)
     else mapped arg.Value r.expression i
 
--- the arguments after commas; the number is how many there may be
-unfoldable pub more_arguments : ℕ → Parser Arg → List Arg → Parser (List Arg)
-more_arguments zero argument args i = Ok (args, i)
-more_arguments (suc fuel) argument args i =
-    if same_symbol (ahead i) symbol.Comma then argument (rest i) >>= (λ x. more_arguments fuel argument (args ++ x.0 ∷ []) x.1)
-    else Ok (args, i)
-
 unfoldable pub listed_by : Readers → Parser (List Arg)
-listed_by r i = argument_by r i >>= (λ x. more_arguments (length x.1) (argument_by r) (x.0 ∷ []) x.1)
+listed_by r = listed_at (argument_by r)
 
 unfoldable pub arguments_by : Readers → Parser (List Arg)
 arguments_by r i =
@@ -195,7 +189,7 @@ unfoldable pub readers : ℕ → Readers
 readers zero = no_readers
 readers (suc n) = next_readers n (readers n)
 
--- ---- what the methods read
+-- ---- what the functions of the parser read
 
 abbrev pub expression_at : ℕ → Parser Expr
 expression_at n = (readers n).expression

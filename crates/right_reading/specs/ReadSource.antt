@@ -1,4 +1,4 @@
--- What the methods read that read functions and whole sources, with what reads blocks.
+-- What the functions read that read functions and whole sources, with what reads blocks.
 use Rattle.std.specs.Prelude.{ℕ, suc, Bool, true, false, not, ◌&&◌, if◌then◌else◌, List, [], ◌∷◌, length, Option, Some, None, Ok}
 use Rattle.sat_base.specs.declared.name.At.{At}
 use Rattle.sat_base.specs.declared.name.Named.{Named}

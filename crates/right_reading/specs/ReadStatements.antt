@@ -1,4 +1,4 @@
--- What the methods read that read assignments, steps, calls, blocks and statements. The limit of a method is how
+-- What the functions read that read assignments, steps, calls, blocks and statements. The limit of a function is how
 -- many nodes may stand below one another in what it reads.
 use Rattle.std.specs.Prelude.{ℕ, zero, suc, Bool, not, if◌then◌else◌, List, [], length, Option, Some, None, Ok}
 use Rattle.sat_base.specs.declared.name.At.{At}

@@ -1,4 +1,4 @@
-// What it is to read tokens rightly: what the methods of the parser read at the front of the tokens, as functions on
+// What it is to read tokens rightly: what the functions of the parser read at the front of the tokens, as functions on
 // lists, and when such a function reads what the grammar spells.
 #![tactic(auto)]
 

@@ -15,17 +15,17 @@ use Rattle.c_grammar.specs.Spelling.{Spells}
 use Rattle.c_grammar.specs.Spots.{Spot}
 use Rattle.right_reading.specs.Stream.{ahead, Parser, both, take_at}
 use Rattle.c_grammar.specs.Symbols.{same_symbol, begins_objects, begins_statement}
-use Rattle.right_reading.proofs.Begins.{spells_starts}
-use Rattle.right_reading.proofs.Many.{stops_many, many_right}
+use Rattle.right_reading.proofs.Ahead.Begins.{spells_starts}
+use Rattle.right_reading.proofs.Lists.Many.{stops_many, many_right}
 use Rattle.right_reading.specs.Right.{Ends, Stops, Right, always, Reads}
-use Rattle.right_reading.proofs.Rules.{Choice, no_parts, early_seen}
+use Rattle.right_reading.proofs.Composed.Rules.{Choice, no_parts, early_seen}
 use Rattle.c_grammar.proofs.Sequences.{from_nothing}
-use Rattle.statement_reading.proofs.StatementParts.{apart_by}
-use Rattle.statement_reading.proofs.StatementStops.{stops_statement, no_else}
-use Rattle.right_reading.proofs.Steps.{Right-both, Right-seen}
+use Rattle.statement_reading.proofs.Statements.StatementParts.{apart_by}
+use Rattle.statement_reading.proofs.Statements.StatementStops.{stops_statement, no_else}
+use Rattle.right_reading.proofs.Composed.Steps.{Right-both, Right-seen}
 use Rattle.c_grammar.proofs.SymbolNumbers.{same-is}
-use Rattle.right_reading.proofs.Tokens.{take_right}
-use Rattle.right_reading.proofs.Words.{closed_right}
+use Rattle.right_reading.proofs.OneToken.Tokens.{take_right}
+use Rattle.right_reading.proofs.OneToken.Words.{closed_right}
 use Rattle.c_grammar.proofs.SymbolSets.{among}
 
 abbrev of_objects : Objects → List Part

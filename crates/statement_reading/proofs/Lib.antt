@@ -1,12 +1,4 @@
 pub mod AllRight
 pub mod BlockRight
-pub mod IfRight
-pub mod Maybes
-pub mod SimpleMarks
-pub mod SimpleNamed
-pub mod SimpleRight
-pub mod StatementChoices
-pub mod StatementParts
-pub mod StatementRefused
-pub mod StatementRight
-pub mod StatementStops
+pub mod Simples
+pub mod Statements

@@ -12,7 +12,7 @@ use Rattle.c_grammar.specs.Symbols.{same_symbol}
 use Rattle.right_reading.specs.Lists.{after, many}
 use Rattle.right_reading.specs.ReadDeclarations.{more_braced, braced_at, word_at}
 use Rattle.right_reading.specs.Stream.{ahead, rest, Fault, Parser, ◌>>=◌, take_at}
-use Rattle.right_reading.proofs.Afters.{after-taken}
+use Rattle.right_reading.proofs.OneToken.Afters.{after-taken}
 use Rattle.token_reader.specs.Gives.{Fails, Gives}
 
 abbrev Listing : Type 0 → Type 0

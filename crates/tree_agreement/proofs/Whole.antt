@@ -21,7 +21,7 @@ use Rattle.tree_agreement.proofs.LawfulParts as lawful
 use Rattle.tree_agreement.proofs.Agree as one
 use Rattle.tree_agreement.proofs.Calls.{GiveArguments, none, next, not_so, called_same}
 
-both_true : (a b : Bool) → IsTrue (a && b) → IsTrue a × IsTrue b
+pub both_true : (a b : Bool) → IsTrue (a && b) → IsTrue a × IsTrue b
 both_true true b right = (refl, right)
 both_true false b right = absurd (not_so right)
 

@@ -1,4 +1,5 @@
 pub mod Parts
 pub mod Trees
 pub mod Observed
+pub mod Safe
 pub mod Examples

@@ -70,25 +70,34 @@ of_start object run = record (of_value (run >> gives (pos 0))) { object = object
 unfoldable pub operated_with : ℕ → ℕ → Op → List ℤ → Run ℤ
 operated_with weight site op args = at_site site (value_of op args) >>= (λ value. changing (λ kept. raised (raises_of op args) (counted weight kept)) >> gives value)
 
+-- What an operator does on its operands, with the weight and the site of its node, and what a read of Overflow does. A
+-- run acts plainly; what removing clips and flags rests on is said by runs that act otherwise (Safe.antt).
+pub record Acts : Type 0 where
+  pub operator : (weight site : ℕ) → Op → List ℤ → Run ℤ
+  pub flag : Run ℤ
+
+abbrev pub plain_acts : Acts
+plain_acts = record { operator = operated_with; flag = reading (λ kept. kept.overflow) }
+
 abbrev pub operand_value : List NodeMeaning → ℕ → Run ℤ
 operand_value operands place = unwrap_or (slice_get (map (λ (part : NodeMeaning). part.value) operands) place) (gives (pos 0))
 
 -- an index gives no number by itself
-unfoldable pub operate_meaning : ℕ → SiteKind → List NodeMeaning → ℕ → Run ℤ
-operate_meaning site (kind.Call op) operands weight =
-    gathered [] (map (λ (part : NodeMeaning). part.argument) operands) >>= (λ givens. operated_with weight site op (operands_of op givens))
-operate_meaning site kind.Sum operands weight = binary_meaning binary.Plus site (operand_value operands 0) (operand_value operands 1)
-operate_meaning site kind.Difference operands weight = binary_meaning binary.Minus site (operand_value operands 0) (operand_value operands 1)
-operate_meaning site kind.Product operands weight = binary_meaning binary.Times site (operand_value operands 0) (operand_value operands 1)
-operate_meaning site kind.Opposite operands weight = operand_value operands 0 >>= unary_meaning unary.Minus site
-operate_meaning site (kind.Bound number) operands weight = gives (pos 0)
-operate_meaning site kind.ViewBound operands weight = gives (pos 0)
-operate_meaning site kind.ViewEdge operands weight = gives (pos 0)
-operate_meaning site kind.Sample operands weight = sample_in site
+unfoldable pub operate_meaning : Acts → ℕ → SiteKind → List NodeMeaning → ℕ → Run ℤ
+operate_meaning acts site (kind.Call op) operands weight =
+    gathered [] (map (λ (part : NodeMeaning). part.argument) operands) >>= (λ givens. acts.operator weight site op (operands_of op givens))
+operate_meaning acts site kind.Sum operands weight = binary_meaning binary.Plus site (operand_value operands 0) (operand_value operands 1)
+operate_meaning acts site kind.Difference operands weight = binary_meaning binary.Minus site (operand_value operands 0) (operand_value operands 1)
+operate_meaning acts site kind.Product operands weight = binary_meaning binary.Times site (operand_value operands 0) (operand_value operands 1)
+operate_meaning acts site kind.Opposite operands weight = operand_value operands 0 >>= unary_meaning unary.Minus site
+operate_meaning acts site (kind.Bound number) operands weight = gives (pos 0)
+operate_meaning acts site kind.ViewBound operands weight = gives (pos 0)
+operate_meaning acts site kind.ViewEdge operands weight = gives (pos 0)
+operate_meaning acts site kind.Sample operands weight = sample_in site
 
-abbrev pub of_site : ℕ → SiteKind → List NodeMeaning → ℕ → NodeMeaning
-of_site site kind operands weight =
-    record (of_value (operate_meaning site kind operands weight)) { site = site; index = slice_get (map (λ (part : NodeMeaning). part.value) operands) 0 }
+abbrev pub of_site : Acts → ℕ → SiteKind → List NodeMeaning → ℕ → NodeMeaning
+of_site acts site kind operands weight =
+    record (of_value (operate_meaning acts site kind operands weight)) { site = site; index = slice_get (map (λ (part : NodeMeaning). part.value) operands) 0 }
 
 -- ---- places
 

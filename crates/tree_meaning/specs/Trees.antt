@@ -16,49 +16,59 @@ use Rattle.c_tree.specs.declared.expression.UnaryMark.TheVariants as unary
 use Rattle.typed_meaning.specs.Expressions.{Setting, Called, site_at}
 use Rattle.typed_meaning.specs.Statements.{assignment_meaning, step_mark, return_meaning, condition_or_one}
 use Rattle.ir_arena.specs.Tree.{IrTree, IrTarget, IrTrees, Constant, Read, Address, Operate, Convert, Not, Invert, Binary, Choose, Call, ReadFlag, Left, Write, Step, WriteFlag, Out, AddCount, Start, Empty, Block, If, Loop, Leave, Return, Variable, Element, ThroughView, end, more}
-use Rattle.tree_meaning.specs.Parts.{NodeMeaning, of_value, of_change, of_flow, of_view, of_start, of_site, location_meaning, openings, loop_meaning}
+use Rattle.tree_meaning.specs.Parts.{Acts, plain_acts, NodeMeaning, of_value, of_change, of_flow, of_view, of_start, of_site, location_meaning, openings, loop_meaning}
+
+module _ (acts : Acts) (here : Setting) (called : Called) where
+  abbrev mutual
+    pub meaning_with : IrTree → NodeMeaning
+    meaning_with (Constant value) = of_value (gives value)
+    meaning_with (Read target) = of_value (target_with target access.Element >>= (λ at. reading (number_at at)))
+    meaning_with (Address target) = of_view (target_with target access.Address)
+    meaning_with (Operate site kind operands weight) = of_site acts site kind (meanings_with operands) weight
+    meaning_with (Convert cast width part) = of_value ((meaning_with part).value >>= (λ x. gives (converted width x)))
+    meaning_with (Not part) = of_value ((meaning_with part).value >>= unary_meaning unary.Not 0)
+    meaning_with (Invert part) = of_value ((meaning_with part).value >>= unary_meaning unary.Invert 0)
+    meaning_with (Binary mark left right) = of_value (binary_meaning mark 0 (meaning_with left).value (meaning_with right).value)
+    meaning_with (Choose cond this other) = of_value (choosing (meaning_with cond).value (meaning_with this).value (meaning_with other).value)
+    meaning_with (Call function args) = of_value (gathered [] (map (λ (part : NodeMeaning). part.argument) (meanings_with args)) >>= called function)
+    meaning_with (ReadFlag word) = of_value acts.flag
+    meaning_with Left = of_value sample_left
+    meaning_with (Write target mark width site value) = of_change (assignment_meaning here (target_with target access.Element) mark (site_at site) (meaning_with value).value)
+    meaning_with (Step target up width site) = of_change (assignment_meaning here (target_with target access.Element) (step_mark up) site (gives (pos 1)))
+    meaning_with (WriteFlag value) = of_change ((meaning_with value).value >>= (λ x. changing (with_overflow x)))
+    meaning_with (Out value) = of_value ((meaning_with value).value >>= (λ x. sample_out x >> gives (pos 0)))
+    meaning_with (AddCount weight) = of_value (changing (counted weight) >> gives (pos 0))
+    meaning_with (Start object value) = of_start object (meaning_with value).argument
+    meaning_with Empty = of_flow (gives Normal)
+    meaning_with (Block first objects starts parts) =
+        of_flow (all_of (openings here objects first (meanings_with starts)) >> in_sequence (map (λ (part : NodeMeaning). part.flow) (meanings_with parts)))
+    meaning_with (If cond this other) =
+        of_flow (choosing (meaning_with cond).value (meaning_with this).flow (unwrap_or (slice_get (map (λ (part : NodeMeaning). part.flow) (meanings_with other)) 0) (gives Normal)))
+    meaning_with (Loop cut tests_first first cond last body) =
+        of_flow (all_of (map (λ (part : NodeMeaning). part.change) (meanings_with first))
+        >> loop_meaning tests_first here.turns (condition_or_one (slice_get (map (λ (part : NodeMeaning). part.value) (meanings_with cond)) 0))
+        (all_of (map (λ (part : NodeMeaning). part.change) (meanings_with last))) (meaning_with body).flow)
+    meaning_with (Leave again) = of_flow (gives (if again then Continue else Break))
+    meaning_with (Return value) = of_flow (return_meaning (slice_get (map (λ (part : NodeMeaning). part.value) (meanings_with value)) 0))
+
+    pub target_with : IrTarget → Access → Run Location
+    target_with (Variable object) = location_meaning here object []
+    target_with (Element object index) = location_meaning here object (meanings_with index)
+    target_with (ThroughView view index) = location_meaning here view (meanings_with index)
+
+    pub meanings_with : IrTrees → List NodeMeaning
+    meanings_with end = []
+    meanings_with (more first rest) = meaning_with first ∷ meanings_with rest
 
 module _ (here : Setting) (called : Called) where
-  abbrev mutual
-    pub node_meaning : IrTree → NodeMeaning
-    node_meaning (Constant value) = of_value (gives value)
-    node_meaning (Read target) = of_value (target_meaning target access.Element >>= (λ at. reading (number_at at)))
-    node_meaning (Address target) = of_view (target_meaning target access.Address)
-    node_meaning (Operate site kind operands weight) = of_site site kind (node_meanings operands) weight
-    node_meaning (Convert cast width part) = of_value ((node_meaning part).value >>= (λ x. gives (converted width x)))
-    node_meaning (Not part) = of_value ((node_meaning part).value >>= unary_meaning unary.Not 0)
-    node_meaning (Invert part) = of_value ((node_meaning part).value >>= unary_meaning unary.Invert 0)
-    node_meaning (Binary mark left right) = of_value (binary_meaning mark 0 (node_meaning left).value (node_meaning right).value)
-    node_meaning (Choose cond this other) = of_value (choosing (node_meaning cond).value (node_meaning this).value (node_meaning other).value)
-    node_meaning (Call function args) = of_value (gathered [] (map (λ (part : NodeMeaning). part.argument) (node_meanings args)) >>= called function)
-    node_meaning (ReadFlag word) = of_value (reading (λ kept. kept.overflow))
-    node_meaning Left = of_value sample_left
-    node_meaning (Write target mark width site value) = of_change (assignment_meaning here (target_meaning target access.Element) mark (site_at site) (node_meaning value).value)
-    node_meaning (Step target up width site) = of_change (assignment_meaning here (target_meaning target access.Element) (step_mark up) site (gives (pos 1)))
-    node_meaning (WriteFlag value) = of_change ((node_meaning value).value >>= (λ x. changing (with_overflow x)))
-    node_meaning (Out value) = of_value ((node_meaning value).value >>= (λ x. sample_out x >> gives (pos 0)))
-    node_meaning (AddCount weight) = of_value (changing (counted weight) >> gives (pos 0))
-    node_meaning (Start object value) = of_start object (node_meaning value).argument
-    node_meaning Empty = of_flow (gives Normal)
-    node_meaning (Block first objects starts parts) =
-        of_flow (all_of (openings here objects first (node_meanings starts)) >> in_sequence (map (λ (part : NodeMeaning). part.flow) (node_meanings parts)))
-    node_meaning (If cond this other) =
-        of_flow (choosing (node_meaning cond).value (node_meaning this).flow (unwrap_or (slice_get (map (λ (part : NodeMeaning). part.flow) (node_meanings other)) 0) (gives Normal)))
-    node_meaning (Loop cut tests_first first cond last body) =
-        of_flow (all_of (map (λ (part : NodeMeaning). part.change) (node_meanings first))
-        >> loop_meaning tests_first here.turns (condition_or_one (slice_get (map (λ (part : NodeMeaning). part.value) (node_meanings cond)) 0))
-        (all_of (map (λ (part : NodeMeaning). part.change) (node_meanings last))) (node_meaning body).flow)
-    node_meaning (Leave again) = of_flow (gives (if again then Continue else Break))
-    node_meaning (Return value) = of_flow (return_meaning (slice_get (map (λ (part : NodeMeaning). part.value) (node_meanings value)) 0))
+  abbrev pub node_meaning : IrTree → NodeMeaning
+  node_meaning = meaning_with plain_acts here called
 
-    pub target_meaning : IrTarget → Access → Run Location
-    target_meaning (Variable object) = location_meaning here object []
-    target_meaning (Element object index) = location_meaning here object (node_meanings index)
-    target_meaning (ThroughView view index) = location_meaning here view (node_meanings index)
+  abbrev pub target_meaning : IrTarget → Access → Run Location
+  target_meaning = target_with plain_acts here called
 
-    pub node_meanings : IrTrees → List NodeMeaning
-    node_meanings end = []
-    node_meanings (more first rest) = node_meaning first ∷ node_meanings rest
+  abbrev pub node_meanings : IrTrees → List NodeMeaning
+  node_meanings = meanings_with plain_acts here called
 
   -- the number that a tree gives
   abbrev pub value_meaning : IrTree → Run ℤ

@@ -1,4 +1,4 @@
-use Rattle.std.proofs.Common.{rules, ◌≡◌, ℕ, ◌-◌, ◌+◌, ◌≤◌, ◌<◌, nat_le, true, false, arith, ◌∙◌, sym, Some, List, ap, subst}
+use Rattle.std.proofs.Common.{rules, ◌≡◌, ℕ, suc, length, ◌∷◌, [], ◌++◌, ◌-◌, ◌+◌, ◌≤◌, ◌<◌, nat_le, true, false, arith, ◌∙◌, sym, Some, List, ap, subst}
 use Rattle.std.proofs.lemmas.Bool.Decides.{nat_tests}
 use Rattle.std.proofs.lemmas.Grind.{common_steps}
 use Rattle.std.specs.Prelude.{Result, Ok}
@@ -10,28 +10,59 @@ use Rattle.c_tree.specs.Depth.{deepest, depth_of_argument, depth_of_expression}
 use Rattle.c_grammar.specs.declared.symbol.Symbol.TheVariants as symbol
 use Rattle.c_grammar.specs.Spots.{Spot, here}
 use Rattle.c_grammar.specs.Symbols.{binary_mark, same_symbol}
-use Rattle.right_reading.specs.ReadExpressions.{expression_at, branches_by, chain_at, argument_at, marks_at, more_arguments, named_by, ranked, unmarked}
-use Rattle.right_reading.specs.Stream.{ahead, rest, Fault}
+use Rattle.right_reading.specs.ReadExpressions.{expression_at, branches_by, chain_at, argument_at, listed_by, marks_at, named_by, ranked, unmarked}
+use Rattle.right_reading.specs.Lists.{after, is_comma, many, more_listed}
+use Rattle.right_reading.specs.Stream.{ahead, rest, Fault, ◌>>=◌}
 use Rattle.token_reader.specs.Gives.{Fails}
 use Rattle.expression_parser.specs.Heights.{Measures}
-use Rattle.token_reader.proofs.Loops.{rest_passed}
-use Rattle.expression_parser.proofs.ListedArguments.{argument_next}
+use Rattle.token_reader.proofs.Loops.{rest_passed, turned, failed, many_on, comma_passed}
 use Rattle.expression_parser.proofs.HeightEquations.{call_depth, binary_depth, one_more_argument}
 use Rattle.expression_parser.proofs.ReaderEquations.{expression_chosen, expression_too_deep}
 use Rattle.expression_parser.proofs.Marks.{marks_deep, marks_fail, marks_next, fails_deep, measures_failed}
 use Rattle.expression_parser.proofs.+expressions.Goals as goal
+
+pub calls::listed_arguments-loop-turn-init : goal.calls::listed_arguments-loop-turn-init
+unfolding listed_by
+calls::listed_arguments-loop-turn-init t c =
+    let item = argument_at c.args.limit in
+    let next_item = after symbol.Comma item in
+    let x = c.in_ok-first.first in
+    let m = c.in_ok-first.ensures.1 in
+    let turns : c.turns-turn-end.result - 0 ≡ suc (length c.argument.new.reader) = omega (arith, c.turns-turn-end.ensures) in
+    let one : c.push.new.self ≡ x.tree ∷ [] = c.in_ok-push.ensures.ok ∙ ap (λ (args : List Arg). args ++ x.tree ∷ []) c.new-args.ensures in
+    record {
+      same = ap (λ (n : ℕ). many is_comma next_item n c.push.new.self c.argument.new.reader) turns ∙ ap (λ (args : List Arg). more_listed item args c.argument.new.reader) one
+          ∙ sym (ap (λ (y : Result (Arg × List Spot) Fault). y >>= (λ x. more_listed item (x.0 ∷ []) x.1)) c.in_ok-first.ensures.0);
+      measured = record { height = omega (arith, m.height, ap (deepest depth_of_argument) one); within = m.within };
+    }
+
+pub calls::listed_arguments-returns-in_err-next : goal.calls::listed_arguments-returns-in_err-next
+calls::listed_arguments-returns-in_err-next t c =
+    let i = c.loop-turn.reader in
+    let e = c.in_err-next.field-0.0 in
+    let item = argument_at c.args.limit in
+    let next_item = after symbol.Comma item in
+    let comma : is_comma (ahead i) ≡ true = sym c.pass_if.ensures.value ∙ c.if-not-pass_if.false in
+    let passed : c.pass_if.new.self ≡ rest i = rest_passed c.pass_if.result i c.pass_if.new.self c.pass_if.ensures.rest c.if-not-pass_if.false in
+    let bad : Fails (next_item i) e = subst (λ (y : Result (Arg × List Spot) Fault). Fails y e) (sym (comma_passed item i c.pass_if.new.self comma passed)) c.in_err-next.ensures in
+    measures_failed (deepest depth_of_argument) c.args.limit c.from_residual-in_err-next.result e c.argument-in-loop-turn.new.reader _ c.from_residual-in_err-next.ensures.1
+    (failed (many is_comma next_item) next_item _ c.turns-turn-end.result c.loop-turn._turn c.loop-turn.args i c.loop-turn.invariant.same c.loop-turn-test.true (many_on is_comma next_item c.loop-turn.args i comma) e bad)
 
 pub calls::listed_arguments-loop-turn-preserved : goal.calls::listed_arguments-loop-turn-preserved
 calls::listed_arguments-loop-turn-preserved t c =
     let i = c.loop-turn.reader in
     let v = c.loop-turn.invariant in
     let m = c.in_ok-next.ensures.1 in
-    let comma : same_symbol (ahead i) symbol.Comma ≡ true = sym c.pass_if.ensures.value ∙ c.if-not-pass_if.false in
+    let item = argument_at c.args.limit in
+    let next_item = after symbol.Comma item in
+    let comma : is_comma (ahead i) ≡ true = sym c.pass_if.ensures.value ∙ c.if-not-pass_if.false in
     let passed : c.pass_if.new.self ≡ rest i = rest_passed c.pass_if.result i c.pass_if.new.self c.pass_if.ensures.rest c.if-not-pass_if.false in
-    let next = argument_next (argument_at c.args.limit) _ c.left-turn-end.result c.loop-turn._turn c.loop-turn.args i c.pass_if.new.self c.in_ok-next.next.tree c.argument-in-loop-turn.new.reader v.same c.loop-turn-test.true comma passed c.in_ok-next.ensures.0 in
+    let read = comma_passed item i c.pass_if.new.self comma passed ∙ c.in_ok-next.ensures.0 in
+    let next = turned (many is_comma next_item) next_item _ c.turns-turn-end.result c.loop-turn._turn c.loop-turn.args i v.same c.loop-turn-test.true (many_on is_comma next_item c.loop-turn.args i comma)
+    c.in_ok-next.next.tree c.argument-in-loop-turn.new.reader read in
     let more = c.in_ok-push-2.ensures.ok in
     record {
-      same = ap (λ (args : List Arg). more_arguments (c.left-turn-end.result - (c.loop-turn._turn + 1)) (argument_at c.args.limit) args c.argument-in-loop-turn.new.reader) more ∙ next;
+      same = ap (λ (args : List Arg). many is_comma next_item (c.turns-turn-end.result - (c.loop-turn._turn + 1)) args c.argument-in-loop-turn.new.reader) more ∙ next;
       measured = record {
         height = omega (arith, c.max-height.ensures, v.measured.height, m.height, ap (deepest depth_of_argument) more, one_more_argument c.loop-turn.args c.in_ok-next.next.tree);
         within = omega (arith, c.max-height.ensures, v.measured.within, m.within);

@@ -2,7 +2,9 @@
 use Rattle.std.proofs.Common.{length, ◌≡◌, ◌+◌, ◌-◌, ◌*◌}
 use Rattle.c_tree.specs.Depth.{deepest, depth_of_expression, depth_of_argument}
 use Rattle.expression_parser.specs.Heights.{IsMeasured}
-use Rattle.right_reading.specs.ReadExpressions.{chain_at, argument_at, marks_at, more_arguments}
+use Rattle.right_reading.specs.ReadExpressions.{chain_at, argument_at, listed_by, marks_at, readers}
+use Rattle.c_grammar.specs.declared.symbol.Symbol.TheVariants as symbol
+use Rattle.right_reading.specs.Lists.{after, is_comma, many}
 use Rattle.expression_parser.proofs.+expressions.Given as goal
 
 -- a lower limit counts more than the order of the functions at one limit
@@ -48,7 +50,7 @@ decreases-expressions::unary l = 32 * l.limit + 4
 -- with the turns that are left, reading comes where it comes from the start
 abbrev pub invariant-calls::listed_arguments-loop-turn : goal.invariant-calls::listed_arguments-loop-turn
 invariant-calls::listed_arguments-loop-turn l = record {
-  same : more_arguments (l._turn-end - l._turn) (argument_at l.limit) l.args l.reader ≡ more_arguments l._turn-end (argument_at l.limit) l.initial.args l.initial.reader;
+  same : many is_comma (after symbol.Comma (argument_at l.limit)) (l._turn-end - l._turn) l.args l.reader ≡ listed_by (readers l.limit) l.fn.reader;
   measured : IsMeasured (deepest depth_of_argument) l.limit (record { tree = l.args; height = l.height });
 }
 

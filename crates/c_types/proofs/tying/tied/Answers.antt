@@ -1,5 +1,6 @@
 use Rattle.std.proofs.Common.{◌≡◌, ℕ, List, [], map, refl, sym, subst, ap, ◌∙◌}
-use Rattle.std.specs.List.Sorted.{IsPermutation, IsNonDecreasingBy}
+use Rattle.std.specs.List.Sorted.{IsPermutation, IsNonDecreasingBy, IsStableByKey}
+use Rattle.std.specs.Ordering.{nat_cmp}
 use Rattle.operator_meaning.specs.declared.object.Site.{Site}
 use Rattle.tied_names.specs.declared.note.Note.{Note}
 use Rattle.tied_names.specs.Numbers.{sites_in, token_of, exposed_in}
@@ -23,6 +24,9 @@ returns c =
           subst (λ (l : List Note). IsPermutation (sites_in l) c.from_vec.result) (c.as_slice.ensures.value ∙ found)
           (subst (λ (l : List Site). IsPermutation (sites_in c.as_slice.result.now) l) (sym sites) c.in_ok-sites.ensures.same);
       in_order = subst (IsNonDecreasingBy token_of) (sym sites) c.in_ok-sites.ensures.in_order;
+      stable =
+          subst (λ (l : List Note). IsStableByKey token_of nat_cmp (sites_in l) c.from_vec.result) (c.as_slice.ensures.value ∙ found)
+          (subst (λ (l : List Site). IsStableByKey token_of nat_cmp (sites_in c.as_slice.result.now) l) (sym sites) c.in_ok-sites.ensures.stable);
       objects = c.in_ok-whole.ensures.objects ∙ ap (λ (s : Source). s.here.objects) whole;
       functions = c.in_ok-whole.ensures.functions ∙ ap (λ (s : Source). s.functions) whole;
       constants = c.in_ok-constants.ensures ∙ ap constants_of (c.as_slice-4.ensures.value ∙ c.in_ok-seen.ensures);

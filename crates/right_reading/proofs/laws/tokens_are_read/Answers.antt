@@ -1,4 +1,4 @@
-use Rattle.right_reading.proofs.Tokens.{take_right, name_right, number_right}
+use Rattle.right_reading.proofs.OneToken.Tokens.{take_right, name_right, number_right}
 use Rattle.right_reading.proofs.laws.tokens_are_read.Goals as goal
 
 pub returns : goal.returns

@@ -1,0 +1,4 @@
+pub mod Lower
+pub mod NextReaders
+pub mod NoReaders
+pub mod ReadersRight

@@ -1,0 +1,4 @@
+pub mod Looser
+pub mod OperandRules
+pub mod Operands
+pub mod Optional

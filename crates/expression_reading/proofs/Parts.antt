@@ -1,0 +1,4 @@
+pub mod Arguments
+pub mod Indices
+pub mod Places
+pub mod Types

@@ -1,0 +1,4 @@
+pub mod Ways
+pub mod Trees
+pub mod Readers
+pub mod Laws

@@ -1,0 +1,4 @@
+pub mod Afters
+pub mod Endings
+pub mod Tokens
+pub mod Words

@@ -1,0 +1,3 @@
+pub mod SimpleMarks
+pub mod SimpleNamed
+pub mod SimpleRight
