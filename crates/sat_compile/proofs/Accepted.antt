@@ -15,7 +15,7 @@ use Rattle.sat_compile.specs.declared.refusal.CompileRefusal.TheVariants.{TooLon
 use Rattle.sat_compile.specs.Accepted.{HasTree, IsAccepted}
 use Rattle.sat_compile.specs.Causes.{IsCause, MayShow}
 use Rattle.sat_compile.specs.Checked.{IsUnchecked}
-use Rattle.sat_compile.proofs.OneTyped.{no_recursion}
+use Rattle.sat_compile.proofs.Recursion.{no_recursion}
 use Rattle.sat_compile.specs.FirstSource.{source_of}
 use Rattle.sat_compile.specs.Source.{Source}
 

@@ -5,9 +5,9 @@ pub mod Evaluation
 pub mod Expressions
 pub mod Leads
 pub mod Nesting
-pub mod OneTyped
 pub mod Operators
 pub mod Readable
+pub mod Recursion
 pub mod Simulation
 pub mod Sizes
 pub mod Storage

@@ -1,4 +1,4 @@
-use Rattle.sat_compile.proofs.OneTyped.{fault_passed}
+use Rattle.sat_compile.proofs.Recursion.{fault_passed}
 use Rattle.sat_compile.proofs.checking.checked.Goals as goal
 
 pub returns-in-Err-clause-refused : goal.returns-in-Err-clause-refused
