@@ -1,5 +1,5 @@
 -- A text has at most one source, and no line refuses an accepted text.
-use Rattle.std.proofs.Common.{◌≡◌, ◌≢◌, ℕ, ◌≤◌, List, length, Some, refl, sym, ap, ◌∙◌, subst, arith}
+use Rattle.std.proofs.Common.{◌≡◌, ◌≢◌, ℕ, List, refl, sym, ap, ◌∙◌, subst, arith}
 use Rattle.std.proofs.lemmas.Option.{none-some}
 use Rattle.sat_base.specs.declared.position.Pos.{Pos}
 use Rattle.c_lexer.specs.declared.token.Token.{Token}
@@ -8,13 +8,14 @@ use Rattle.c_lexer.specs.Text.{IsCut}
 use Rattle.c_tree.specs.declared.program.Program.{Program}
 use Rattle.c_grammar.specs.Programs.{Spells, IsSyntaxFault, IsTooDeep}
 use Rattle.c_reader.proofs.ReadWhole.{one_tree}
-use Rattle.first_form.specs.declared.first.First.{First}
 use Rattle.first_form.specs.Form.{IsFirst}
 use Rattle.first_form.proofs.Statements.{at_most_one}
 use Rattle.sat_compile.specs.declared.refusal.CompileRefusal.{CompileRefusal}
-use Rattle.sat_compile.specs.declared.refusal.CompileRefusal.TheVariants.{TooLong, Lex, Syntax, TooDeep, NotYet, Memory}
+use Rattle.sat_compile.specs.declared.refusal.CompileRefusal.TheVariants.{TooLong, Lex, Syntax, TooDeep, Faulty, Recursive, NotYet, Memory}
 use Rattle.sat_compile.specs.Accepted.{HasTree, IsAccepted}
 use Rattle.sat_compile.specs.Causes.{IsCause, MayShow}
+use Rattle.sat_compile.specs.Checked.{IsUnchecked}
+use Rattle.sat_compile.proofs.Recursion.{no_recursion}
 use Rattle.sat_compile.specs.FirstSource.{source_of}
 use Rattle.sat_compile.specs.Source.{Source}
 
@@ -53,9 +54,15 @@ no_cause text source accepted (TooDeep tok at) other cause =
     let same = one_cut text cause.0 accepted.tree.tokens cause.1.cut accepted.tree.has.cut in
     let fault = subst (λ (t : Tokens). IsTooDeep t tok at) same cause.2 in
     omega (arith, fault.deeper accepted.program _ accepted.tree.spelled.items refl, accepted.tree.shallow)
+no_cause text source accepted (Faulty fault) other cause =
+    let same = one_program text cause.0 accepted.program cause.1 accepted.tree in
+    none-some fault (sym accepted.checked.tied.faultless ∙ subst (λ (t : Program). IsUnchecked t (Faulty fault)) same cause.2)
+no_cause text source accepted (Recursive pos names) other cause =
+    let same = one_program text cause.0 accepted.program cause.1 accepted.tree in
+    no_recursion accepted.program accepted.typed accepted.functions accepted.checked pos names (subst (λ (t : Program). IsUnchecked t (Recursive pos names)) same cause.2)
 no_cause text source accepted NotYet other cause =
-    let same = one_program text accepted.program cause.0 accepted.tree cause.1 in
-    cause.2 accepted.first (subst (λ (t : Program). IsFirst t accepted.first) same accepted.form)
+    let same = one_program text accepted.program cause.program accepted.tree cause.tree in
+    cause.other accepted.first (subst (λ (t : Program). IsFirst t accepted.first) same accepted.form)
 no_cause text source accepted Memory other cause = other refl
 
 pub not_shown : (text line : List ℕ) (source : Source) → IsAccepted text source → MayShow text line → ⊥

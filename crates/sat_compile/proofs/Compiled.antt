@@ -1,5 +1,5 @@
 -- The image of a source does what the source does, and has an entry for each of its sites.
-use Rattle.std.proofs.Common.{◌≡◌, ℕ, ◌+◌, ◌≤◌, List, All, length, Option, Some, refl, sym, subst, arith}
+use Rattle.std.proofs.Common.{◌≡◌, ℕ, ◌≤◌, List, All, length, Option, Some, refl, sym, subst, arith}
 use Rattle.std.specs.Prelude.{IfSome}
 use Rattle.sat_base.specs.declared.limits.TheConstants.{SOURCE_BYTES, TOKENS, DEPTH}
 use Rattle.c_lexer.specs.declared.token.Tokens.{Tokens}
@@ -14,6 +14,8 @@ use Rattle.first_form.proofs.Numbers.{operands}
 use Rattle.image_format.specs.declared.image.Image.{Image}
 use Rattle.sat_compile.specs.Emission.{image_of, HasNumbers}
 use Rattle.sat_compile.specs.Accepted.{HasTokens, IsImageOf}
+use Rattle.c_typed.specs.declared.typed.Typed.{Typed}
+use Rattle.sat_compile.specs.Checked.{IsChecked}
 use Rattle.sat_compile.specs.FirstSource.{source_of}
 use Rattle.sat_compile.specs.Promise.{Compiles}
 use Rattle.sat_compile.proofs.Entries.{holds}
@@ -60,13 +62,16 @@ module _ (text : List ℕ) (tokens : Tokens) (program : Program) (first : First)
     readable = readable first few_tokens nested_little numbers;
   }
 
-  pub image_is : (image : Image) → image ≡ image_of first → HasNumbers image → IsImageOf text image
-  image_is image is numbers =
+  pub image_is : (typed : Typed) (functions : List ℕ) → IsChecked program typed functions → (image : Image) → image ≡ image_of first → HasNumbers image → IsImageOf text image
+  image_is typed functions checked image is numbers =
       subst (IsImageOf text) (sym is) (record {
         source = source_of first;
         accepted = record {
           program = program;
           tree = record { tokens = tokens; has = read.has; spelled = read.spelled; shallow = read.shallow };
+          typed = typed;
+          functions = functions;
+          checked = checked;
           first = first;
           form = read.form;
           is = refl;

@@ -7,6 +7,7 @@ pub mod Leads
 pub mod Nesting
 pub mod Operators
 pub mod Readable
+pub mod Recursion
 pub mod Simulation
 pub mod Sizes
 pub mod Storage

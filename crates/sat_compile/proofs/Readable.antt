@@ -1,12 +1,12 @@
 -- The image of a source is one that an image file can hold.
-use Rattle.std.proofs.Common.{◌≡◌, ◌≢◌, ℕ, ◌+◌, ◌*◌, ◌≤◌, List, All, length, map, refl, sym, subst, arith, lit≤}
+use Rattle.std.proofs.Common.{ℕ, ◌≤◌, All, length, map, arith}
 use Rattle.std.proofs.lemmas.List.{length-map}
 use Rattle.first_form.specs.declared.first.First.{First}
 use Rattle.first_form.specs.Form.{nesting_of}
 use Rattle.image_format.specs.declared.image.SiteEntry.{SiteEntry}
 use Rattle.image_format.specs.Readable.{IsWord, IsReadableEntry, IsReadable}
 use Rattle.rv_encode.specs.Words.{encoded}
-use Rattle.sat_compile.specs.Emission.{code_of, entries_from, levels_of, memory_of, image_of, HasNumbers}
+use Rattle.sat_compile.specs.Emission.{code_of, image_of, HasNumbers}
 use Rattle.sat_compile.proofs.Entries.{LiesIn, entries_lie}
 use Rattle.sat_compile.proofs.Sizes.{tokens_in, code_small, memory_whole, memory_small, sites_small}
 

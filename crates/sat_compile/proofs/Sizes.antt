@@ -1,6 +1,6 @@
 -- How long the code of a source is, and how many entries and calls it has, against the tokens that it has at least.
 use Rattle.std.proofs.Common.{◌≡◌, ℕ, ◌+◌, ◌*◌, ◌≤◌, pos, List, [], ◌∷◌, ◌++◌, length, arith, lit≤, All, flat_map}
-use Rattle.std.proofs.lemmas.List.{length-append, length-map, length-replicate}
+use Rattle.std.proofs.lemmas.List.{length-append, length-replicate}
 use Rattle.sat_base.specs.declared.position.Pos.{Pos}
 use Rattle.first_form.specs.Form.{nesting_of}
 use Rattle.first_form.specs.declared.first.First.{First}
@@ -8,10 +8,9 @@ use Rattle.first_form.specs.declared.first.FirstExpr.{FirstExpr, Int, Add', Sub'
 use Rattle.image_format.specs.declared.image.SiteEntry.{SiteEntry}
 use Rattle.rv_encode.specs.declared.instruction.Instr.{Instr}
 use Rattle.rv_encode.specs.declared.instruction.Instr.TheVariants.{Addi, Lw}
-use Rattle.rv_encode.specs.Words.{encoded}
 use Rattle.sat_compile.specs.declared.emit.Operator.{Operator}
 use Rattle.sat_compile.specs.declared.emit.Operator.TheVariants as operator
-use Rattle.sat_compile.specs.Emission.{slot, operator_code, operand_code, kept_code, call_code, call_entries, expression_code, environment_code, out_code, code_of, expression_entries, entries_from, levels_of, memory_of, image_of}
+use Rattle.sat_compile.specs.Emission.{slot, operator_code, operand_code, kept_code, call_code, call_entries, expression_code, environment_code, out_code, code_of, expression_entries, entries_from, levels_of, memory_of}
 use Rattle.sat_compile.proofs.Entries.{operator_length}
 use Rattle.sat_compile.proofs.Nesting.{deepest-within}
 

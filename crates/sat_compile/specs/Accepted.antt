@@ -5,10 +5,12 @@ use Rattle.c_lexer.specs.declared.token.Tokens.{Tokens}
 use Rattle.c_lexer.specs.Text.{IsCut}
 use Rattle.c_tree.specs.declared.program.Program.{Program}
 use Rattle.c_tree.specs.Depth.{depth_of}
+use Rattle.c_typed.specs.declared.typed.Typed.{Typed}
 use Rattle.c_grammar.specs.Programs.{Spells}
 use Rattle.first_form.specs.declared.first.First.{First}
 use Rattle.first_form.specs.Form.{IsFirst}
 use Rattle.image_format.specs.declared.image.Image.{Image}
+use Rattle.sat_compile.specs.Checked.{IsChecked}
 use Rattle.sat_compile.specs.FirstSource.{source_of}
 use Rattle.sat_compile.specs.Promise.{Compiles}
 use Rattle.sat_compile.specs.Source.{Source}
@@ -25,10 +27,19 @@ pub record HasTree (text : List ℕ) (program : Program) : Type 0 where
   pub spelled : Spells program tokens
   pub shallow : depth_of program ≤ DEPTH
 
--- the text is accepted, and this is its source: its tree has the first form
+-- the text is that of a source: its tree has no fault, these are its tied names, and no function reaches itself
+pub record IsSource (text : List ℕ) (typed : Typed) (functions : List ℕ) : Type 0 where
+  pub program : Program
+  pub tree : HasTree text program
+  pub checked : IsChecked program typed functions
+
+-- the text is accepted, and this is its source, which has the first form
 pub record IsAccepted (text : List ℕ) (source : Source) : Type 0 where
   pub program : Program
   pub tree : HasTree text program
+  pub typed : Typed
+  pub functions : List ℕ
+  pub checked : IsChecked program typed functions
   pub first : First
   pub form : IsFirst program first
   pub is : source ≡ source_of first

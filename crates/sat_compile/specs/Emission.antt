@@ -1,6 +1,6 @@
 -- The instructions and the site entries of a source of the first form. In a pattern `boxed e` is a box with e
 -- in it.
-use Rattle.std.specs.Prelude.{ℕ, ◌+◌, ◌-◌, ◌*◌, ◌/◌, max, ℤ, pos, negsuc, ◌-ℤ◌, List, [], ◌∷◌, ◌++◌, length, map, replicate, unsigned_abs, All}
+use Rattle.std.specs.Prelude.{ℕ, ◌+◌, ◌-◌, ◌*◌, ◌/◌, max, ℤ, pos, ◌-ℤ◌, List, [], ◌∷◌, ◌++◌, length, map, replicate, unsigned_abs, All}
 use Rattle.std.specs.List.{flat_map}
 use Rattle.sat_base.specs.declared.position.Pos.{Pos}
 use Rattle.first_form.specs.declared.first.First.{First}
@@ -10,7 +10,7 @@ use Rattle.image_format.specs.declared.image.Image.{Image}
 use Rattle.image_format.specs.Readable.{IsWord, IsByte}
 use Rattle.image_format.specs.declared.image.SiteEntry.{SiteEntry}
 use Rattle.rv_encode.specs.declared.instruction.Instr.{Instr}
-use Rattle.rv_encode.specs.declared.instruction.Instr.TheVariants.{Lui, Addi, Add, Sub, Lw, Sw, Blt, Bge, Jal, Ecall}
+use Rattle.rv_encode.specs.declared.instruction.Instr.TheVariants.{Lui, Addi, Add, Sub, Lw, Sw, Ecall}
 use Rattle.rv_encode.specs.Words.{encoded}
 use Rattle.sat_compile.specs.Templates.{clip_words}
 use Rattle.sat_compile.specs.declared.emit.Operator.{Operator}

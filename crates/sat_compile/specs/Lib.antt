@@ -1,8 +1,10 @@
 pub mod Accepted
 pub mod Causes
+pub mod Checked
 pub mod Emission
 pub mod FirstSource
 pub mod Laws
+pub mod Passing
 pub mod Promise
 pub mod Source
 pub mod Telling

@@ -1,11 +1,10 @@
 -- What is promised of the image of a source, whatever the source is.
-use Rattle.std.specs.Prelude.{◌≡◌, ℕ, ◌+◌, ◌≤◌, ◌⊎◌, List, [], ◌∷◌, length, map, take, drop, All}
+use Rattle.std.specs.Prelude.{◌≡◌, ℕ, ◌+◌, ◌≤◌, ◌⊎◌, List, [], ◌∷◌, map, take, drop, All}
 use Rattle.image_format.specs.declared.image.Image.{Image}
 use Rattle.image_format.specs.declared.image.SiteEntry.{SiteEntry}
 use Rattle.image_format.specs.Readable.{IsReadable}
 use Rattle.image_format.specs.RunsAlike.{RunsAlike}
 use Rattle.operator_meaning.specs.declared.object.Site.{Site}
-use Rattle.operator_meaning.specs.declared.operator.Op.TheVariants.{Add}
 use Rattle.operator_meaning.specs.declared.site.Form.{Form}
 use Rattle.operator_meaning.specs.declared.site.Form.TheVariants.{Plain, Clamp, Flag}
 use Rattle.operator_meaning.specs.declared.site.Guard.{Guard}

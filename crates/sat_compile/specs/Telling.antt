@@ -1,6 +1,8 @@
 -- What is told of a text that is refused: a place, and words.
 use Rattle.std.specs.Prelude.{◌≡◌, ℕ, List, [], ◌∷◌, ◌++◌, codes}
+use Rattle.std.specs.List.{flat_map}
 use Rattle.std.specs.Fmt.{decimal}
+use Rattle.sat_base.specs.Faults.{text_of}
 use Rattle.sat_base.specs.declared.position.Pos.{Pos}
 use Rattle.sat_base.specs.Position.{first_position}
 use Rattle.c_lexer.specs.declared.token.LexRefusal.{LexRefusal}
@@ -10,13 +12,15 @@ use Rattle.c_grammar.specs.declared.refusal.ReadRefusal.TheVariants as reading
 use Rattle.sat_compile.specs.declared.refusal.LexKind.{LexKind}
 use Rattle.sat_compile.specs.declared.refusal.LexKind.TheVariants.{BadByte, OpenComment, BadNumber, BadDirective, TooManyTokens}
 use Rattle.sat_compile.specs.declared.refusal.CompileRefusal.{CompileRefusal}
-use Rattle.sat_compile.specs.declared.refusal.CompileRefusal.TheVariants.{TooLong, Lex, Syntax, TooDeep, NotYet, Memory}
+use Rattle.sat_compile.specs.declared.refusal.CompileRefusal.TheVariants.{TooLong, Lex, Syntax, TooDeep, Faulty, Recursive, NotYet, Memory}
 
 abbrev pub place_of : CompileRefusal → Pos
 place_of TooLong = first_position
 place_of (Lex kind at) = at
 place_of (Syntax tok at) = at
 place_of (TooDeep tok at) = at
+place_of (Faulty fault) = fault.pos
+place_of (Recursive pos names) = pos
 place_of NotYet = first_position
 place_of Memory = first_position
 
@@ -32,15 +36,32 @@ words_of TooLong = codes "source too long"
 words_of (Lex kind at) = lexical_words kind
 words_of (Syntax tok at) = codes "syntax"
 words_of (TooDeep tok at) = codes "too deep"
+words_of (Faulty fault) = text_of fault.kind
+words_of (Recursive pos names) = codes "recursion"
 words_of NotYet = codes "not yet"
 words_of Memory = codes "out of memory"
+
+-- the names that are told after the words
+abbrev pub names_of : CompileRefusal → List (List ℕ)
+names_of TooLong = []
+names_of (Lex kind at) = []
+names_of (Syntax tok at) = []
+names_of (TooDeep tok at) = []
+names_of (Faulty fault) = []
+names_of (Recursive pos names) = names
+names_of NotYet = []
+names_of Memory = []
+
+-- each behind a space
+abbrev pub spaced : List ℕ → List ℕ
+spaced name = 32 ∷ name
 
 -- the line that tells a place and words
 abbrev pub error_line : Pos → List ℕ → List ℕ
 error_line at words = codes "error " ++ decimal at.line ++ codes ":" ++ decimal at.col ++ codes " " ++ words ++ 10 ∷ []
 
 abbrev pub refusal_line : CompileRefusal → List ℕ
-refusal_line refusal = error_line (place_of refusal) (words_of refusal)
+refusal_line refusal = error_line (place_of refusal) (words_of refusal ++ flat_map spaced (names_of refusal))
 
 -- ---- how the refusals of the lexer and of the reader are passed on
 

@@ -8,7 +8,6 @@ use Rattle.operator_meaning.specs.declared.operator.Op.{Op}
 use Rattle.operator_meaning.specs.declared.operator.Op.TheVariants.{Add, Sub}
 use Rattle.operator_meaning.specs.declared.site.SiteKind.{SiteKind}
 use Rattle.operator_meaning.specs.declared.site.SiteKind.TheVariants.{Call}
-use Rattle.operator_meaning.specs.declared.site.Form.TheVariants.{Flag}
 use Rattle.sat_compile.specs.Source.{Treatment}
 
 -- the registers of a result and of up to three operands; 0 where there is none

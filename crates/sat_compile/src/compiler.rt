@@ -4,6 +4,7 @@ ghost use Rattle.std.specs.Prelude.{IfOk, IfErr};
 ghost use Rattle.sat_compile.specs.Accepted.{IsImageOf};
 ghost use Rattle.sat_compile.specs.Causes.{IsCause};
 
+use crate::checking::checked;
 use crate::emit::image_of;
 use crate::refusal::CompileRefusal;
 use c_lexer::tokens;
@@ -20,7 +21,8 @@ pub struct Built {
 }
 
 /// Compiles a text: an image of its source exactly where the text is accepted. Otherwise the refusal has its
-/// cause, and the causes are looked at in this order: length, lexical rules, syntax and depth, form.
+/// cause, and the causes are looked at in this order: length, lexical rules, syntax and depth, faults and
+/// limits, recursion, form.
 pub fn compile(alloc: Global, text: &[u8]) -> Result<Built, CompileRefusal>
     ensures built { IfOk result (λ built. IsImageOf text.now built.image) }
     ensures refused { IfErr result (IsCause text.now) }
@@ -30,6 +32,7 @@ pub fn compile(alloc: Global, text: &[u8]) -> Result<Built, CompileRefusal>
     }
     let tokens = tokens(alloc, text)?;
     let program = read(alloc, &tokens)?;
+    let _source = checked(alloc, &program)?;
     let Some(first) = first_of(alloc, &program)? else {
         return Err(CompileRefusal::NotYet);
     };

@@ -4,7 +4,8 @@ ghost use Rattle.std.specs.Prelude.{◌≡◌};
 
 use c_lexer::LexRefusal;
 use c_reader::ReadRefusal;
-use sat_base::{Memory, Pos};
+use sat_base::{Fault, Memory, Name, Pos, fault_text};
+use sqlite_items::Items;
 use std::alloc::AllocError;
 
 /// The place of what is told of a text as a whole.
@@ -21,7 +22,7 @@ pub enum LexKind {
 }
 
 /// Why nothing is made of a text.
-#[derive(Clone, Copy, Debug, PartialEq, Eq)]
+#[derive(Debug, Drop)]
 pub enum CompileRefusal {
     /// The text has more bytes than a source may have.
     TooLong,
@@ -31,38 +32,56 @@ pub enum CompileRefusal {
     Syntax { tok: u32, pos: Pos },
     /// Each program that goes on with this token is too deep.
     TooDeep { tok: u32, pos: Pos },
-    /// The program has not the form that is compiled.
+    /// The program has this fault, or passes this limit.
+    Faulty(Fault),
+    /// A function reaches itself: the name in its definition, and the names along a cycle of calls.
+    Recursive { pos: Pos, names: Items<Name> },
+    /// The source has not the form that is compiled.
     NotYet,
     /// Want of memory.
     Memory,
 }
 
 impl CompileRefusal {
-    ghost use Rattle.sat_compile.specs.Telling.{place_of, words_of};
+    ghost use Rattle.sat_compile.specs.Telling.{place_of, words_of, names_of};
 
     /// The place that is told.
-    pub fn place(self) -> Pos
-        ensures { result ≡ place_of self }
+    pub fn place(&self) -> Pos
+        ensures { result ≡ place_of self.now }
     {
         match self {
             CompileRefusal::Lex { pos, .. }
             | CompileRefusal::Syntax { pos, .. }
-            | CompileRefusal::TooDeep { pos, .. } => pos,
+            | CompileRefusal::TooDeep { pos, .. }
+            | CompileRefusal::Recursive { pos, .. } => *pos,
+            CompileRefusal::Faulty(fault) => fault.pos,
             CompileRefusal::TooLong | CompileRefusal::NotYet | CompileRefusal::Memory => BEGINNING,
         }
     }
 
     /// The words that are told.
-    pub fn words(self) -> &'static str
-        ensures { result.now ≡ words_of self }
+    pub fn words(&self) -> &'static str
+        ensures { result.now ≡ words_of self.now }
     {
         match self {
             CompileRefusal::TooLong => "source too long",
             CompileRefusal::Lex { kind, .. } => kind.words(),
             CompileRefusal::Syntax { .. } => "syntax",
             CompileRefusal::TooDeep { .. } => "too deep",
+            CompileRefusal::Faulty(fault) => fault_text(fault.kind),
+            CompileRefusal::Recursive { .. } => "recursion",
             CompileRefusal::NotYet => "not yet",
             CompileRefusal::Memory => "out of memory",
+        }
+    }
+
+    /// The names that are told after the words.
+    pub fn names(&self) -> &[Name]
+        ensures { result.now ≡ names_of self.now }
+    {
+        match self {
+            CompileRefusal::Recursive { names, .. } => names.as_slice(),
+            _ => &[],
         }
     }
 }

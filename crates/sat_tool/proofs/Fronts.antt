@@ -6,7 +6,7 @@ use Rattle.image_format.specs.declared.image.Image.{Image}
 use Rattle.sat_compile.specs.Accepted.{IsImageOf}
 use Rattle.sat_compile.specs.Causes.{IsCause, MayShow}
 use Rattle.sat_compile.specs.declared.refusal.CompileRefusal.{CompileRefusal}
-use Rattle.sat_compile.specs.declared.refusal.CompileRefusal.TheVariants.{TooLong, Lex, Syntax, TooDeep, NotYet, Memory}
+use Rattle.sat_compile.specs.declared.refusal.CompileRefusal.TheVariants.{TooLong, Lex, Syntax, TooDeep, Faulty, Recursive, NotYet, Memory}
 
 -- a front that is within the length of a source is the whole
 pub whole : (file bytes : List ℕ) → bytes ≡ take (SOURCE_BYTES + 1) file → length bytes ≤ SOURCE_BYTES → bytes ≡ file
@@ -23,7 +23,9 @@ cause_of_file file bytes TooLong front cause = longer file bytes front cause
 cause_of_file file bytes (Lex kind at) front cause = subst (λ b. IsCause b (Lex kind at)) (whole file bytes front cause.0) cause
 cause_of_file file bytes (Syntax tok at) front cause = subst (λ b. IsCause b (Syntax tok at)) (whole file bytes front cause.1.short) cause
 cause_of_file file bytes (TooDeep tok at) front cause = subst (λ b. IsCause b (TooDeep tok at)) (whole file bytes front cause.1.short) cause
-cause_of_file file bytes NotYet front cause = subst (λ b. IsCause b NotYet) (whole file bytes front cause.1.has.short) cause
+cause_of_file file bytes (Faulty fault) front cause = subst (λ b. IsCause b (Faulty fault)) (whole file bytes front cause.1.has.short) cause
+cause_of_file file bytes (Recursive pos names) front cause = subst (λ b. IsCause b (Recursive pos names)) (whole file bytes front cause.1.has.short) cause
+cause_of_file file bytes NotYet front cause = subst (λ b. IsCause b NotYet) (whole file bytes front cause.tree.has.short) cause
 cause_of_file file bytes Memory front cause = tt
 
 pub shown_of_file : (file bytes line : List ℕ) → bytes ≡ take (SOURCE_BYTES + 1) file → MayShow bytes line → MayShow file line

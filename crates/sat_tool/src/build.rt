@@ -56,6 +56,6 @@ fn compiled(alloc: Global, text: &[u8]) -> Result<Built, Outcome>
     match compile(alloc, text) {
         Ok(built) => Ok(built),
         Err(CompileRefusal::Memory) => Err(Outcome::NoMemory),
-        Err(refusal) => Err(Outcome::Refused(refusal_line(alloc, refusal)?)),
+        Err(refusal) => Err(Outcome::Refused(refusal_line(alloc, &refusal)?)),
     }
 }

@@ -1,10 +1,11 @@
 // What a run comes to.
 
-ghost use Rattle.std.specs.Prelude.{◌≡◌, string_bytes, IfOk};
+ghost use Rattle.std.specs.Prelude.{◌≡◌, ◌++◌, string_bytes, IfOk};
+ghost use Rattle.std.specs.List.{flat_map};
 ghost use Rattle.sat_tool.specs.Lines.{sites_line, missing_line, cannot_read_line, cannot_write_line};
-ghost use Rattle.sat_compile.specs.Telling.{refusal_line};
+ghost use Rattle.sat_compile.specs.Telling.{refusal_line, spaced};
 
-use sat_base::Memory;
+use sat_base::{Memory, Name};
 use sat_compile::CompileRefusal;
 use sqlite_items::Items;
 use std::alloc::{AllocError, Global};
@@ -128,13 +129,27 @@ pub fn cannot_write(alloc: Global, name: &str) -> Result<Outcome, AllocError>
 }
 
 /// The line that tells of a text where and why it is refused.
-pub fn refusal_line(alloc: Global, refusal: CompileRefusal) -> Result<Text, AllocError>
-    ensures { IfOk result (λ text. text ≡ refusal_line refusal) }
+pub fn refusal_line(alloc: Global, refusal: &CompileRefusal) -> Result<Text, AllocError>
+    ensures { IfOk result (λ text. text ≡ refusal_line refusal.now) }
 {
     let at = refusal.place();
     let words = refusal.words();
-    let line = format!(in alloc; "error {}:{} {words}\n", at.line, at.col)?;
-    Ok(text(line))
+    let told = format!(in alloc; "error {}:{} {words}", at.line, at.col)?;
+    let mut line = with_names(told.into_bytes(), refusal.names())?;
+    line.push(b'\n')?;
+    Ok(Items::from_vec(line))
+}
+
+// The text, with each of the names behind it, after a space.
+fn with_names(told: Vec<u8>, names: &[Name]) -> Result<Vec<u8>, AllocError>
+    ensures { IfOk result (λ line. line.items ≡ told.items ++ flat_map spaced names.now) }
+{
+    let mut line = told;
+    for name in names {
+        line.push(b' ')?;
+        line.extend_from_slice(name.as_bytes())?;
+    }
+    Ok(line)
 }
 
 /// The text of a line.
