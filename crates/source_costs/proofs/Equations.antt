@@ -6,7 +6,6 @@ use Rattle.sat_base.specs.declared.name.Named.{Named}
 use Rattle.sat_base.specs.declared.width.Width.{Width}
 use Rattle.c_tree.specs.declared.call.Arg.{Arg}
 use Rattle.c_tree.specs.declared.call.Arg.TheBlock.{hidden-the_row-Arg-2}
-use Rattle.c_tree.specs.declared.call.Arg.TheVariants.{Value}
 use Rattle.c_tree.specs.declared.call.Call.{Call}
 use Rattle.c_tree.specs.declared.expression.BinaryMark.{BinaryMark}
 use Rattle.c_tree.specs.declared.expression.Expr.{Expr}
@@ -49,9 +48,6 @@ below-Choose cond one other = ap cost_below (Choose-boxed cond one other)
 
 pub below-Call : (call : Call) → cost_below (kind.Call call) ≡ cost_of_call call
 below-Call call = ap (λ (n : ℕ). called_words + n) (row-listed call.args)
-
-pub argument-Value : (e : Expr) → cost_of_argument (Value e) ≡ cost_of_expression e
-argument-Value e = refl
 
 pub place-Index : (name : Named) (mark_at : At) (index : Expr) → cost_of_place (Index name mark_at index) ≡ indexed_words + cost_of_expression index
 place-Index name mark_at index = ap cost_of_place (Index-boxed name mark_at index)
