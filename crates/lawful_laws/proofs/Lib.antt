@@ -1,0 +1,4 @@
+pub mod Functions
+pub mod Statements
+pub mod Sound
+pub mod Sites

@@ -1,0 +1,28 @@
+// Lines of what is lawful that hold of every source whose names are tied.
+
+ghost use Rattle.lawful_laws.specs.Laws.{FunctionsAreWhole, LeavesStandInLoops, ReturnsFit, SitesAreInOrder, WeightsAreKnown};
+
+/// A function has a body where it has a definition, and else neither that nor parameters.
+pub fn functions_are_whole()
+    ensures { FunctionsAreWhole }
+{}
+
+/// In a source without a fault `break` and `continue` stand in loops.
+pub fn leaves_stand_in_loops()
+    ensures { LeavesStandInLoops }
+{}
+
+/// In a source without a fault `return` has a value exactly where its function gives a number.
+pub fn returns_fit()
+    ensures { ReturnsFit }
+{}
+
+/// Where no two sites have one token, the sites stand in the order of their tokens.
+pub fn sites_are_in_order()
+    ensures { SitesAreInOrder }
+{}
+
+/// The table of weights is one of those that there are.
+pub fn weights_are_known()
+    ensures { WeightsAreKnown }
+{}

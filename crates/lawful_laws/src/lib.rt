@@ -1,0 +1,8 @@
+// A source whose names are tied is lawful: laws alone, one for each line of it that is proved.
+#![tactic(auto)]
+
+mod laws;
+
+pub use laws::{
+    functions_are_whole, leaves_stand_in_loops, returns_fit, sites_are_in_order, weights_are_known,
+};
