@@ -2,3 +2,4 @@ pub mod Functions
 pub mod Statements
 pub mod Sound
 pub mod Sites
+pub mod Endings

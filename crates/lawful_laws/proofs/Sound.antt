@@ -58,6 +58,29 @@ module _ (sound : Seen → Bool) (each : (s : Seen) → faults_at s ≡ [] → s
   seen-sound : (program : Program) → first_of (faults_of program) ≡ None → list_all sound (seen_of program) ≡ true
   seen-sound program is = all-sound (seen_of program) (none-left (flat_map faults_at (seen_of program)) (kept (limits (seen_of program))) (no-fault (faults_of program) is))
 
+  -- each function is as good as what is seen of it says
+  module _ (holds : TypedFunction → Bool) (Good : Function → Block → Type 0)
+      (bare : (function : Function) → holds (declared function) ≡ true)
+      (whole : (function : Function) (body : Block) → Good function body → (numbers : List ℕ) (here : Here) (number : ℕ) → holds (defined function numbers (tied_block body here (inside_of number function)).value) ≡ true)
+      (good : (names : Names) (before : List (Known Declaration)) (item : ℕ) (function : Function) → Each sound (seen_in_function names before item function) → GoodBody Good function function.body) where
+    all-good : (names : Names) (before : List (Known Declaration)) (item : ℕ) (list : List Item) → Each sound (seen_in_items names before item list) → AllGood Good list
+    all-good names before item [] p = tt
+    all-good names before item (items.Objects list ∷ rest) p =
+        all-good (after_item names item (items.Objects list)) before (item + 1) rest
+        (later sound (seen_in_objects names 0 list.decls) (seen_in_items (after_item names item (items.Objects list)) (functions_after names.items before item (items.Objects list)) (item + 1) rest) p)
+    all-good names before item (items.Function function ∷ rest) p =
+        let more : List Seen = seen_in_items (after_item names item (items.Function function)) (functions_after names.items before item (items.Function function)) (item + 1) rest in
+        (good names before item function (earlier sound (seen_in_function names before item function) more p),
+        all-good (after_item names item (items.Function function)) (functions_after names.items before item (items.Function function)) (item + 1) rest (later sound (seen_in_function names before item function) more p))
+    all-good names before item (items.ExternFlag at ∷ rest) p = all-good names before (item + 1) rest p
+
+    pub functions-hold : (program : Program) (source : Typed) → IsTyped program source → list_all holds source.functions ≡ true
+    functions-hold program source typed =
+        let names : Names = record { items = program.items; functions = functions_of program.items; known = [] } in
+        let seen : Each sound (seen_in_items names [] 0 program.items) = earlier sound (seen_in_items names [] 0 program.items) (end_of program ∷ []) (record { all = seen-sound program typed.faultless }) in
+        ap (list_all holds) typed.tied.functions
+        ∙ after-all holds Good bare whole (opening program.items (map token_of source.sites) (exposed_in [] (notes_of program))) 0 program.items (all-good names [] 0 program.items seen) refl
+
   module _ (source : Typed) (test : Thing → Bool) (follows : Follows test sound) where
     abbrev holds : TypedFunction → Bool
     holds function = list_all test (in_function source function)
@@ -72,22 +95,12 @@ module _ (sound : Seen → Bool) (each : (s : Seen) → faults_at s ≡ [] → s
     body-sound names function None p = tt
     body-sound names function (Some body) p = (names, p)
 
-    all-good : (names : Names) (before : List (Known Declaration)) (item : ℕ) (list : List Item) → Each sound (seen_in_items names before item list) → AllGood (IsSound sound) list
-    all-good names before item [] p = tt
-    all-good names before item (items.Objects list ∷ rest) p =
-        all-good (after_item names item (items.Objects list)) before (item + 1) rest
-        (later sound (seen_in_objects names 0 list.decls) (seen_in_items (after_item names item (items.Objects list)) (functions_after names.items before item (items.Objects list)) (item + 1) rest) p)
-    all-good names before item (items.Function function ∷ rest) p =
+    function-sound : (names : Names) (before : List (Known Declaration)) (item : ℕ) (function : Function) → Each sound (seen_in_function names before item function) → GoodBody (IsSound sound) function function.body
+    function-sound names before item function p =
         let inside : Names = after_function names item function in
-        let more : List Seen = seen_in_items (after_item names item (items.Function function)) (functions_after names.items before item (items.Function function)) (item + 1) rest in
-        let whole_function : Each sound (seen_in_function names before item function) = earlier sound (seen_in_function names before item function) more p in
-        let parts : Each sound (seen_in_parts inside function) = tail sound _ _ (tail sound _ _ whole_function) in
-        let body : Each sound (seen_in_body (after_parameters inside function.params) function function.body) =
-        later sound (seen_in_parameters inside (is_some function.body) function.params) (seen_in_body (after_parameters inside function.params) function function.body) parts in (
-          body-sound (after_parameters inside function.params) function function.body body,
-          all-good (after_item names item (items.Function function)) (functions_after names.items before item (items.Function function)) (item + 1) rest (later sound (seen_in_function names before item function) more p),
-        )
-    all-good names before item (items.ExternFlag at ∷ rest) p = all-good names before (item + 1) rest p
+        let parts : Each sound (seen_in_parts inside function) = tail sound _ _ (tail sound _ _ p) in
+        body-sound (after_parameters inside function.params) function function.body
+        (later sound (seen_in_parameters inside (is_some function.body) function.params) (seen_in_body (after_parameters inside function.params) function function.body) parts)
 
     everywhere : (functions : List TypedFunction) → list_all holds functions ≡ true → list_all test (flat_map (in_function source) functions) ≡ true
     everywhere [] p = refl
@@ -95,8 +108,4 @@ module _ (sound : Seen → Bool) (each : (s : Seen) → faults_at s ≡ [] → s
         list_all-append test (in_function source f) (flat_map (in_function source) functions) ∙ both _ _ (left (holds f) (list_all holds functions) p) (everywhere functions (right (holds f) (list_all holds functions) p))
 
     pub stands : (program : Program) → IsTyped program source → Everywhere source test
-    stands program typed =
-        let names : Names = record { items = program.items; functions = functions_of program.items; known = [] } in
-        let seen : Each sound (seen_in_items names [] 0 program.items) = earlier sound (seen_in_items names [] 0 program.items) (end_of program ∷ []) (record { all = seen-sound program typed.faultless }) in
-        everywhere source.functions (ap (list_all holds) typed.tied.functions
-        ∙ after-all holds (IsSound sound) bare whole (opening program.items (map token_of source.sites) (exposed_in [] (notes_of program))) 0 program.items (all-good names [] 0 program.items seen) refl)
+    stands program typed = everywhere source.functions (functions-hold holds (IsSound sound) bare whole function-sound program source typed)

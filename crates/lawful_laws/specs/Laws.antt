@@ -7,11 +7,14 @@ use Rattle.operator_meaning.specs.declared.object.Site.{Site}
 use Rattle.c_tree.specs.declared.program.Program.{Program}
 use Rattle.c_typed.specs.declared.typed.Typed.{Typed}
 use Rattle.c_types.specs.Tied.{IsTied, IsTyped}
-use Rattle.lawful_sources.specs.Lawful.{token_of, is_whole, Everywhere, IsLawful}
+use Rattle.lawful_sources.specs.Lawful.{token_of, is_whole, returns_surely, Everywhere, IsLawful}
 use Rattle.lawful_sources.specs.Rows.{is_in_loop, return_fits}
 
 abbrev pub FunctionsAreWhole : Type 0
 FunctionsAreWhole = (program : Program) (typed : Typed) → IsTied program typed → list_all is_whole typed.functions ≡ true
+
+abbrev pub FunctionsReturn : Type 0
+FunctionsReturn = (program : Program) (typed : Typed) → IsTyped program typed → list_all returns_surely typed.functions ≡ true
 
 abbrev pub LeavesStandInLoops : Type 0
 LeavesStandInLoops = (program : Program) (typed : Typed) → IsTyped program typed → Everywhere typed is_in_loop

@@ -1,10 +1,15 @@
 // Lines of what is lawful that hold of every source whose names are tied.
 
-ghost use Rattle.lawful_laws.specs.Laws.{FunctionsAreWhole, LeavesStandInLoops, ReturnsFit, SitesAreInOrder, WeightsAreKnown};
+ghost use Rattle.lawful_laws.specs.Laws.{FunctionsAreWhole, FunctionsReturn, LeavesStandInLoops, ReturnsFit, SitesAreInOrder, WeightsAreKnown};
 
 /// A function has a body where it has a definition, and else neither that nor parameters.
 pub fn functions_are_whole()
     ensures { FunctionsAreWhole }
+{}
+
+/// In a source without a fault each function that gives a number, other than `main`, surely returns.
+pub fn functions_return()
+    ensures { FunctionsReturn }
 {}
 
 /// In a source without a fault `break` and `continue` stand in loops.
