@@ -3,3 +3,4 @@ pub mod Statements
 pub mod Sound
 pub mod Sites
 pub mod Endings
+pub mod Objects

@@ -55,7 +55,7 @@ module _ (sound : Seen → Bool) (each : (s : Seen) → faults_at s ≡ [] → s
   all-sound [] p = refl
   all-sound (s ∷ rest) p = rw (each s (none-left (faults_at s) (flat_map faults_at rest) p), all-sound rest (none-right (faults_at s) (flat_map faults_at rest) p)) refl
 
-  seen-sound : (program : Program) → first_of (faults_of program) ≡ None → list_all sound (seen_of program) ≡ true
+  pub seen-sound : (program : Program) → first_of (faults_of program) ≡ None → list_all sound (seen_of program) ≡ true
   seen-sound program is = all-sound (seen_of program) (none-left (flat_map faults_at (seen_of program)) (kept (limits (seen_of program))) (no-fault (faults_of program) is))
 
   -- each function is as good as what is seen of it says

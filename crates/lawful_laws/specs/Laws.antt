@@ -1,4 +1,4 @@
--- Which lines of what is lawful hold of every source whose names are tied. Those about places and calls, about the
+-- Which lines of what is lawful hold of every source whose names are tied. Those about places and calls, about most
 -- fields of objects, about limits, and about what stands at the tokens of sites are not among them.
 use Rattle.std.specs.Prelude.{◌≡◌, ℕ, ◌<◌, true, length, map, slice_index_or}
 use Rattle.std.specs.List.{list_all}
@@ -8,6 +8,7 @@ use Rattle.c_tree.specs.declared.program.Program.{Program}
 use Rattle.c_typed.specs.declared.typed.Typed.{Typed}
 use Rattle.c_types.specs.Tied.{IsTied, IsTyped}
 use Rattle.lawful_sources.specs.Lawful.{token_of, is_whole, returns_surely, Everywhere, IsLawful}
+use Rattle.lawful_sources.specs.Objects.{is_no_static_view}
 use Rattle.lawful_sources.specs.Rows.{is_in_loop, return_fits}
 
 abbrev pub FunctionsAreWhole : Type 0
@@ -32,3 +33,6 @@ SitesAreInOrder = (program : Program) (typed : Typed) → IsTied program typed �
 
 abbrev pub WeightsAreKnown : Type 0
 WeightsAreKnown = (program : Program) (typed : Typed) → IsTied program typed → typed.weights ≡ 1
+
+abbrev pub ViewsAreNotStatic : Type 0
+ViewsAreNotStatic = (program : Program) (typed : Typed) → IsTyped program typed → list_all is_no_static_view typed.objects ≡ true

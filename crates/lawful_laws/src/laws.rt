@@ -1,6 +1,6 @@
 // Lines of what is lawful that hold of every source whose names are tied.
 
-ghost use Rattle.lawful_laws.specs.Laws.{FunctionsAreWhole, FunctionsReturn, LeavesStandInLoops, ReturnsFit, SitesAreInOrder, WeightsAreKnown};
+ghost use Rattle.lawful_laws.specs.Laws.{FunctionsAreWhole, FunctionsReturn, LeavesStandInLoops, ReturnsFit, SitesAreInOrder, ViewsAreNotStatic, WeightsAreKnown};
 
 /// A function has a body where it has a definition, and else neither that nor parameters.
 pub fn functions_are_whole()
@@ -25,6 +25,11 @@ pub fn returns_fit()
 /// Where no two sites have one token, the sites stand in the order of their tokens.
 pub fn sites_are_in_order()
     ensures { SitesAreInOrder }
+{}
+
+/// In a source without a fault no pointer is static.
+pub fn views_are_not_static()
+    ensures { ViewsAreNotStatic }
 {}
 
 /// The table of weights is one of those that there are.

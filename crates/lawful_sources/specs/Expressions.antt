@@ -1,5 +1,5 @@
 -- What stands in expressions, places, arguments and calls, in the order of their tokens.
-use Rattle.std.specs.Prelude.{ℕ, ◌+◌, ◌==◌, ◌&&◌, ℤ, negsuc, neg_ℤ, Bool, true, false, if◌then◌else◌, List, [], ◌∷◌, ◌++◌, length, map, slice_get, Option, Some, None}
+use Rattle.std.specs.Prelude.{ℕ, ◌+◌, ◌==◌, ℤ, negsuc, neg_ℤ, Bool, true, false, if◌then◌else◌, List, [], ◌∷◌, ◌++◌, length, map, slice_get, Option, Some, None}
 use Rattle.std.specs.Ordering.{int_eq}
 use Rattle.sat_base.specs.declared.width.Width.{Width}
 use Rattle.operator_meaning.specs.declared.object.Object.{Object}
@@ -20,7 +20,7 @@ use Rattle.c_typed.specs.declared.expression.TypedExpr.{TypedExpr}
 use Rattle.c_typed.specs.declared.expression.TypedExprKind.{TypedExprKind}
 use Rattle.c_typed.specs.declared.place.TypedPlace.{TypedPlace}
 use Rattle.c_typed.specs.declared.typed.Typed.{Typed}
-use Rattle.lawful_sources.specs.Things.{Marks, Bare, Once, Twice, Star, Taken, Use, Read, Given, Thing, Place, Call, Argument, Mark, Conversion, Constant, taken_at, due_of}
+use Rattle.lawful_sources.specs.Things.{Bare, Once, Twice, Star, Taken, Use, Read, Given, Thing, Place, Call, Argument, Mark, Conversion, Constant, taken_at, due_of}
 
 -- ---- which marks are sites
 

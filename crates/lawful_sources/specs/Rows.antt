@@ -2,7 +2,6 @@
 use Rattle.std.specs.Prelude.{◌≡◌, ℕ, ◌==◌, nat_lt, Bool, true, false, not, ◌&&◌, ◌||◌, List, [], ◌∷◌, flat_map, length, slice_get, Option, Some, None, is_some, is_none, codes}
 use Rattle.std.specs.Str.{bytes_eq}
 use Rattle.sat_base.specs.declared.name.At.{At}
-use Rattle.sat_base.specs.declared.position.Pos.{Pos}
 use Rattle.sat_base.specs.declared.width.Width.{Width}
 use Rattle.sat_base.specs.declared.width.Width.TheVariants.{W16, W32}
 use Rattle.operator_meaning.specs.declared.object.Object.{Object}

@@ -2,7 +2,6 @@
 use Rattle.std.specs.Prelude.{ℕ, ℤ, Bool, if◌then◌else◌, nat_lt, length, slice_get, Option, Some, None}
 use Rattle.sat_base.specs.declared.name.At.{At}
 use Rattle.sat_base.specs.declared.width.Width.{Width}
-use Rattle.sat_base.specs.declared.width.Width.TheVariants.{W32}
 use Rattle.operator_meaning.specs.declared.object.Object.{Object}
 use Rattle.operator_meaning.specs.declared.site.SiteKind.{SiteKind}
 use Rattle.operator_meaning.specs.Table.{width_at}
