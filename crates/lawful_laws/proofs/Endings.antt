@@ -1,6 +1,6 @@
 -- A body surely returns exactly where it does once its names are tied: an induction over the tree.
-use Rattle.std.proofs.Common.{◌≡◌, ℕ, List, [], ◌∷◌, Bool, true, false, map, refl, sym, ap, ◌∙◌, subst}
-use Rattle.std.specs.Prelude.{ℤ, not, ◌&&◌, ◌||◌, Option, Some, None}
+use Rattle.std.proofs.Common.{◌≡◌, List, [], ◌∷◌, Bool, true, false, map, refl, sym, ap, ◌∙◌, subst}
+use Rattle.std.specs.Prelude.{not, ◌&&◌, ◌||◌, Option, Some, None}
 use Rattle.sat_base.specs.declared.name.At.{At}
 use Rattle.c_tree.specs.declared.call.Arg.{Arg}
 use Rattle.c_tree.specs.declared.call.Arg.TheOpen as node

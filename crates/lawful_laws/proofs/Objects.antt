@@ -1,6 +1,6 @@
 -- What holds of each object, by what is seen of its declaration: inductions over statements, and item by item.
-use Rattle.std.proofs.Common.{◌≡◌, ℕ, suc, ◌+◌, List, [], ◌∷◌, ◌++◌, Bool, true, false, map, refl, sym, ap, ◌∙◌, subst, inl, inr, arith}
-use Rattle.std.specs.Prelude.{◌&&◌, nat_lt, Option, Some, None, length, is_some}
+use Rattle.std.proofs.Common.{◌≡◌, ℕ, suc, ◌+◌, List, [], ◌∷◌, ◌++◌, Bool, true, false, map, refl, sym, ap, ◌∙◌, subst, arith}
+use Rattle.std.specs.Prelude.{nat_lt, Option, Some, None, length, is_some}
 use Rattle.std.specs.List.{list_all}
 use Rattle.std.proofs.lemmas.Bool.Decides.{nat_tests}
 use Rattle.std.proofs.lemmas.List.Folds.{list_all-append}
@@ -26,7 +26,7 @@ use Rattle.c_seen.specs.declared.statements.Spot.{Spot}
 use Rattle.c_seen.specs.Declarations as scope
 use Rattle.c_seen.specs.Declarations.{object, dimension, initialiser, number_if_any, seen_in_declared, seen_in_objects, seen_in_lists, after_lists, seen_in_parameters, after_parameters}
 use Rattle.c_seen.specs.Meanings.{Names, is_taken}
-use Rattle.c_seen.specs.Sources.{body_spot, seen_in_body, seen_in_function, seen_in_items, after_item, functions_after, after_function}
+use Rattle.c_seen.specs.Sources.{seen_in_body, seen_in_function, seen_in_items, after_item, functions_after, after_function}
 use Rattle.c_seen.specs.Statements.{simples, seen_in_statement, seen_in_block, seen_in_statements}
 use Rattle.c_seen.proofs.Statements_seen as sees
 use Rattle.tied_names.specs.Numbers.{is_exposed}
@@ -146,10 +146,10 @@ module _ (sound : Seen → Bool) (holds : Object → Bool) (each : HoldsOfObject
   on_block y here inside names depth in_loop gives deep q p =
       let block : Block = record { at = y.at; objects = y.objects; stmts = map (λ (q : SS). q.0) y.stmts } in
       let parts : Each sound (seen_in_lists names depth y.objects ++ seen_in_statements (map (λ (q : SS). q.0) y.stmts) (after_lists names depth y.objects) (spot depth in_loop gives)) =
-          subst (λ (l : List Seen). Each sound l) (sees.block-parts block names (spot depth in_loop gives)) p in
+      subst (λ (l : List Seen). Each sound l) (sees.block-parts block names (spot depth in_loop gives)) p in
       ap (λ (d : Done TypedBlock). list_all holds d.objects) (ties.block-parts block here inside)
       ∙ listed y.stmts (starts_in_lists here inside.function y.objects).after inside (after_lists names depth y.objects) depth in_loop gives deep
-        (lists-hold here inside.function names depth y.objects deep (earlier sound (seen_in_lists names depth y.objects) _ parts) q) (later sound (seen_in_lists names depth y.objects) _ parts)
+      (lists-hold here inside.function names depth y.objects deep (earlier sound (seen_in_lists names depth y.objects) _ parts) q) (later sound (seen_in_lists names depth y.objects) _ parts)
 
   block-holds : (x : Block) → BlockHolds x
   block-holds = ind-Block StatementHolds BlockHolds
@@ -193,8 +193,8 @@ module _ (sound : Seen → Bool) (holds : Object → Bool) (each : HoldsOfObject
       let more : List Seen = seen_in_items (after_item names item (items.Function function)) (functions_after names.items before item (items.Function function)) (item + 1) rest in
       let own : Names = after_function names item function in
       let body : Each sound (seen_in_body (after_parameters own function.params) function function.body) =
-          later sound (seen_in_parameters own (is_some function.body) function.params) (seen_in_body (after_parameters own function.params) function function.body)
-          (tail sound _ _ (tail sound _ _ (earlier sound (seen_in_function names before item function) more p))) in
+      later sound (seen_in_parameters own (is_some function.body) function.params) (seen_in_body (after_parameters own function.params) function function.body)
+      (tail sound _ _ (tail sound _ _ (earlier sound (seen_in_function names before item function) more p))) in
       items-hold (sources.after_item s item (items.Function function)) (after_item names item (items.Function function)) (functions_after names.items before item (items.Function function)) (item + 1) rest
       (later sound (seen_in_function names before item function) more p)
       (body-holds (after_declaration s item function) (number_of s function) function function.body (after_parameters own function.params) body q)

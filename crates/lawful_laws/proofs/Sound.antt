@@ -1,5 +1,5 @@
 -- A source without a fault: what is seen in it stands rightly, in each of its functions.
-use Rattle.std.proofs.Common.{◌≡◌, ℕ, ◌+◌, List, [], ◌∷◌, ◌++◌, Bool, true, false, map, refl, ap, sym, ◌∙◌, subst}
+use Rattle.std.proofs.Common.{◌≡◌, ℕ, ◌+◌, List, [], ◌∷◌, ◌++◌, Bool, true, false, map, refl, ap, ◌∙◌, subst}
 use Rattle.std.specs.Prelude.{flat_map, MatchOption, Option, Some, None, is_some}
 use Rattle.std.specs.List.{list_all}
 use Rattle.std.proofs.lemmas.List.Folds.{list_all-append}
@@ -17,7 +17,7 @@ use Rattle.c_seen.specs.declared.seen.Seen.{Seen}
 use Rattle.c_seen.specs.Declarations.{seen_in_objects, seen_in_parameters, after_parameters}
 use Rattle.c_seen.specs.Functions.{functions_of}
 use Rattle.c_seen.specs.Meanings.{Names}
-use Rattle.c_seen.specs.Sources.{body_spot, seen_in_body, seen_in_parts, seen_in_function, seen_in_item, after_item, after_function, functions_after, seen_in_items, end_of, seen_of}
+use Rattle.c_seen.specs.Sources.{body_spot, seen_in_body, seen_in_parts, seen_in_function, after_item, after_function, functions_after, seen_in_items, end_of, seen_of}
 use Rattle.c_seen.specs.Statements.{seen_in_block}
 use Rattle.c_faults.specs.Faults.{faults_at, faults_of, limits}
 use Rattle.c_faults.specs.Laws.{IsLeast}
@@ -69,9 +69,10 @@ module _ (sound : Seen → Bool) (each : (s : Seen) → faults_at s ≡ [] → s
         all-good (after_item names item (items.Objects list)) before (item + 1) rest
         (later sound (seen_in_objects names 0 list.decls) (seen_in_items (after_item names item (items.Objects list)) (functions_after names.items before item (items.Objects list)) (item + 1) rest) p)
     all-good names before item (items.Function function ∷ rest) p =
-        let more : List Seen = seen_in_items (after_item names item (items.Function function)) (functions_after names.items before item (items.Function function)) (item + 1) rest in
-        (good names before item function (earlier sound (seen_in_function names before item function) more p),
-        all-good (after_item names item (items.Function function)) (functions_after names.items before item (items.Function function)) (item + 1) rest (later sound (seen_in_function names before item function) more p))
+        let more : List Seen = seen_in_items (after_item names item (items.Function function)) (functions_after names.items before item (items.Function function)) (item + 1) rest in (
+          good names before item function (earlier sound (seen_in_function names before item function) more p),
+          all-good (after_item names item (items.Function function)) (functions_after names.items before item (items.Function function)) (item + 1) rest (later sound (seen_in_function names before item function) more p),
+        )
     all-good names before item (items.ExternFlag at ∷ rest) p = all-good names before (item + 1) rest p
 
     pub functions-hold : (program : Program) (source : Typed) → IsTyped program source → list_all holds source.functions ≡ true

@@ -1,7 +1,7 @@
 -- What is seen to stand rightly in a statement stands rightly once its names are tied: an induction over the tree. The
 -- test passes all that may stand in an expression, so it is about statements alone.
 use Rattle.std.proofs.Common.{◌≡◌, ℕ, suc, List, [], ◌∷◌, ◌++◌, Bool, true, false, map, refl, sym, ap, ◌∙◌, subst}
-use Rattle.std.specs.Prelude.{ℤ, ◌&&◌, flat_map, Option, Some, None, option_map, is_some}
+use Rattle.std.specs.Prelude.{ℤ, flat_map, Option, Some, None, option_map, is_some}
 use Rattle.std.specs.List.{list_all}
 use Rattle.std.proofs.lemmas.List.Folds.{list_all-append}
 use Rattle.sat_base.specs.declared.name.At.{At}
@@ -11,7 +11,6 @@ use Rattle.c_tree.specs.declared.statement.Block.{Block, ind-Block, roll-Block}
 use Rattle.c_tree.specs.declared.statement.Stmt.TheOpen as node
 use Rattle.c_tree.specs.declared.statement.Stmt.{Stmt, map-Stmt, roll-Stmt}
 use Rattle.c_tree.specs.declared.statement.Stmt.TheVariants as stmt
-use Rattle.c_tree.specs.Starts.{start_of_simple}
 use Rattle.c_typed.specs.declared.call.TypedArg.{TypedArg}
 use Rattle.c_typed.specs.declared.expression.TypedExpr.{TypedExpr}
 use Rattle.c_typed.specs.declared.simple.TypedSimple.{TypedSimple}
@@ -22,18 +21,17 @@ use Rattle.c_typed.specs.declared.statement.TypedStmt.{TypedStmt}
 use Rattle.c_typed.specs.declared.typed.Typed.{Typed}
 use Rattle.c_seen.specs.declared.seen.Seen.{Seen}
 use Rattle.c_seen.specs.declared.seen.Seen.TheVariants as seen
-use Rattle.c_seen.specs.Declarations.{number, number_if_any, seen_in_lists, after_lists}
+use Rattle.c_seen.specs.Declarations.{number_if_any, after_lists}
 use Rattle.c_seen.specs.Meanings.{Names}
-use Rattle.c_seen.specs.Statements.{simples, seen_in_simple, seen_in_statement, seen_in_block, seen_if_any, seen_in_statements}
+use Rattle.c_seen.specs.Statements.{simples, seen_in_statement, seen_in_block, seen_in_statements}
 use Rattle.c_seen.specs.declared.statements.Spot.{Spot as SeenSpot}
 use Rattle.c_seen.proofs.Statements_seen as sees
 use Rattle.tied_names.specs.Ties.{Here}
-use Rattle.tied_expressions.specs.Expressions.{tied_expression}
 use Rattle.tied_statements.specs.declared.statements.Inside.{Inside}
 use Rattle.tied_statements.specs.Declarations.{with_objects, starts_in_lists}
-use Rattle.tied_statements.specs.Statements.{Done, returned, tied_simple, tied_simples, tied_if_any, tied_statement, tied_block, tied_else, tied_statements}
+use Rattle.tied_statements.specs.Statements.{Done, returned, tied_if_any, tied_statement, tied_block, tied_statements}
 use Rattle.tied_statements.proofs.Statement_equations as ties
-use Rattle.lawful_sources.specs.Things.{Written, Thing, Mark, Begins, Statement, Leave, Return}
+use Rattle.lawful_sources.specs.Things.{Written, Thing, Begins, Statement, Leave, Return}
 use Rattle.lawful_sources.specs.Expressions.{argument_look}
 use Rattle.lawful_sources.specs.Statements.{Spot, Walk, in_option, in_simple, in_simples, in_value, in_returned, in_start, in_value_of, of_statement, of_block, all_of, in_statement, in_block}
 use Rattle.lawful_sources.proofs.Passing.{PassesExpressions, Each, none, next, joined, argument-passes, place-passes, call-passes, expression-passes}

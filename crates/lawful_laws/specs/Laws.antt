@@ -7,7 +7,7 @@ use Rattle.operator_meaning.specs.declared.object.Site.{Site}
 use Rattle.c_tree.specs.declared.program.Program.{Program}
 use Rattle.c_typed.specs.declared.typed.Typed.{Typed}
 use Rattle.c_types.specs.Tied.{IsTied, IsTyped}
-use Rattle.lawful_sources.specs.Lawful.{token_of, is_whole, returns_surely, Everywhere, IsLawful}
+use Rattle.lawful_sources.specs.Lawful.{token_of, is_whole, returns_surely, Everywhere}
 use Rattle.lawful_sources.specs.Objects.{is_no_static_view}
 use Rattle.lawful_sources.specs.Rows.{is_in_loop, return_fits}
 

@@ -7,7 +7,8 @@ pub fn functions_are_whole()
     ensures { FunctionsAreWhole }
 {}
 
-/// In a source without a fault each function that gives a number, other than `main`, surely returns.
+/// In a source without a fault each function that gives a number, other than `main`, surely
+/// returns.
 pub fn functions_return()
     ensures { FunctionsReturn }
 {}

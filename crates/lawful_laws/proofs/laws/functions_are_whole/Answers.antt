@@ -1,4 +1,4 @@
-use Rattle.std.proofs.Common.{◌≡◌, ℕ, List, [], true, map, refl, ap, ◌∙◌}
+use Rattle.std.proofs.Common.{List, [], map, refl, ap, ◌∙◌}
 use Rattle.std.specs.List.{list_all}
 use Rattle.c_tree.specs.declared.function.Function.{Function}
 use Rattle.c_tree.specs.declared.program.Item.{Item}
