@@ -7,8 +7,8 @@ pub fn tokens_cover_costs()
     ensures { TokensCoverCosts }
 {}
 
-/// The intermediate tree of an expression, a place, an argument, a call, a statement and a block costs no more than that
-/// part of the source, whatever its names are tied to.
+/// The intermediate tree of an expression, a place, an argument, a call, a statement and a block costs no
+/// more than that part of the source, whatever its names are tied to.
 pub fn trees_cost_no_more()
     ensures { TreesCostNoMore }
 {}
