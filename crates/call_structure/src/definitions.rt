@@ -10,7 +10,7 @@ use std::alloc::Global;
 
 /// The numbers of the functions that have a definition, each with the name in its definition, in the order of the
 /// definitions.
-pub(crate) fn definitions(alloc: Global, typed: &Typed) -> Result<IndexMap<u32, At>, Memory>
+pub fn definitions(alloc: Global, typed: &Typed) -> Result<IndexMap<u32, At>, Memory>
     ensures { IfOk result (λ definitions. AreDefinitions typed.now definitions.entries) }
 {
     let mut definitions = IndexMap::new(alloc);

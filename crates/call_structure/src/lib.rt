@@ -2,7 +2,7 @@
 #![tactic(auto)]
 
 pub mod callers_first;
-mod definitions;
+pub mod definitions;
 pub mod functions;
 mod graph;
 pub mod laws;
