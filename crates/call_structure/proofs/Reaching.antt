@@ -51,7 +51,7 @@ listed_from (first ∷ rest) start (suc k) function name there defined =
     Contains-append_right (definition_of start first.defined) (defined_from (suc start) rest) (start + suc k, name)
     (subst (λ (n : ℕ). Contains (defined_from (suc start) rest) (n, name)) one (listed_from rest (suc start) k function name there defined))
 
-in_map : {A B : Type 0} (f : A → B) (xs : List A) (x : A) → Contains xs x → Contains (map f xs) (f x)
+pub in_map : {A B : Type 0} (f : A → B) (xs : List A) (x : A) → Contains xs x → Contains (map f xs) (f x)
 in_map f xs x there = (there.0, subst (λ n. there.0 < n) (sym (length-map xs f)) there.1, get_or-map f xs there.0 x ∙ ap f there.2)
 
 module _ (typed : Typed) (definitions : List (ℕ × At)) (are : AreDefinitions typed definitions) where
@@ -61,35 +61,35 @@ module _ (typed : Typed) (definitions : List (ℕ × At)) (are : AreDefinitions 
   abbrev number_of : ℕ × At → ℕ
   number_of definition = definition.0
 
-  abbrev numbers : List ℕ
+  abbrev pub numbers : List ℕ
   numbers = map (λ (definition : ℕ × At). definition.0) definitions
 
   -- the number of the function at a place
-  number_at : (p : ℕ) → get_or numbers p 0 ≡ (get_or definitions p nowhere).0
+  pub number_at : (p : ℕ) → get_or numbers p 0 ≡ (get_or definitions p nowhere).0
   number_at p = get_or-map (λ (definition : ℕ × At). definition.0) definitions p nowhere
 
-  as_many : length numbers ≡ length definitions
+  pub as_many : length numbers ≡ length definitions
   as_many = length-map definitions (λ (definition : ℕ × At). definition.0)
 
-  defined_at : (p : ℕ) → p < length definitions → IsDefined typed.functions (get_or numbers p 0)
+  pub defined_at : (p : ℕ) → p < length definitions → IsDefined typed.functions (get_or numbers p 0)
   defined_at p low =
       let all = own_from typed.functions 0 typed.functions (λ k. let none : 0 + k ≡ k = omega arith in ap (slice_get typed.functions) none) in
       let own = All-get_or (IsOwn typed.functions) definitions p nowhere low (All-permutation (IsOwn typed.functions) _ _ are.each all) in
       subst (IsDefined typed.functions) (sym (number_at p)) ((get_or definitions p nowhere).1, own)
 
-  placed : (f : ℕ) → IsDefined typed.functions f → Contains numbers f
+  pub placed : (f : ℕ) → IsDefined typed.functions f → Contains numbers f
   placed f defined =
       let none : 0 + f ≡ f = omega arith in
       let listed = Contains-permutation _ _ _ are.each (listed_from typed.functions 0 f defined.1.function defined.0 defined.1.there defined.1.defined) in
       subst (Contains numbers) none (in_map (λ (definition : ℕ × At). definition.0) definitions (0 + f, defined.0) listed)
 
-  row : (p : ℕ) → p < length definitions → callees graph p ≡ places_of definitions (called_by typed (get_or numbers p 0))
+  pub row : (p : ℕ) → p < length definitions → callees graph p ≡ places_of definitions (called_by typed (get_or numbers p 0))
   row p low =
       ap (λ o. unwrap_or o []) (slice_get-map (λ (definition : ℕ × At). places_of definitions (called_by typed definition.0)) definitions p
       ∙ ap (option_map (λ (definition : ℕ × At). places_of definitions (called_by typed definition.0))) (slice_get-get_or definitions p nowhere low))
       ∙ ap (λ (n : ℕ). places_of definitions (called_by typed n)) (sym (number_at p))
 
-  sized : length graph ≡ length definitions
+  pub sized : length graph ≡ length definitions
   sized = length-map definitions (λ (definition : ℕ × At). places_of definitions (called_by typed definition.0))
 
   to_places : (n f g p : ℕ) → CallWalk typed n f g → position (nat_eq f) numbers ≡ Some p → (q : ℕ) × Walk graph n p q × (position (nat_eq g) numbers ≡ Some q)

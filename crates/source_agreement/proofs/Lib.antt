@@ -1,0 +1,5 @@
+pub mod Objects
+pub mod Orders
+pub mod Numbers
+pub mod Calls
+pub mod Whole
