@@ -1,5 +1,5 @@
 -- The courses of sums with twice a product.
-use Rattle.std.proofs.Common.{◌≡◌, ℤ, pos, negsuc, ◌+ℤ◌, ◌-ℤ◌, Bool, true, false, ◌||◌, if◌then◌else◌, List, refl, sym, ap, ◌∙◌}
+use Rattle.std.proofs.Common.{◌≡◌, ℤ, pos, ◌+ℤ◌, ◌-ℤ◌, Bool, true, false, ◌||◌, if◌then◌else◌, List, refl, sym, ap, ◌∙◌}
 use Rattle.std.specs.Prelude.{FitsSigned}
 use Rattle.std.specs.Int.{w16, w32}
 use Rattle.sat_base.specs.Clip.{clip32}
@@ -11,15 +11,14 @@ use Rattle.operator_meaning.specs.declared.site.Form.{Form}
 use Rattle.operator_meaning.specs.declared.site.Form.TheVariants.{Plain, Clamp, Flag}
 use Rattle.operator_meaning.specs.declared.site.Guard.{Guard}
 use Rattle.template_runs.specs.Courses.{Ends}
-use Rattle.template_runs.specs.Values.{added, taken, less, multiplied, to_right_signed, upper}
+use Rattle.template_runs.specs.Values.{added, to_right_signed, upper}
 use Rattle.operator_lowering.specs.Courses.{IsCourse}
 use Rattle.operator_lowering.proofs.Numbers.{clip_fits}
 use Rattle.operator_lowering.proofs.Accumulations as Accumulations
 use Rattle.operator_lowering.proofs.Reductions as Reductions
 use Rattle.operator_lowering.proofs.Accumulations.{no_first, no_second}
-use Rattle.operator_lowering.proofs.Products.{twice_of}
 use Rattle.operator_lowering.proofs.Rounding.{rounding, rounding_clamp, rounding_flag, rounding_set, plain_rounding}
-use Rattle.operator_lowering.proofs.Trees.{by_test, by_turned, ends_same, ends_kept, ends_changed}
+use Rattle.operator_lowering.proofs.Trees.{ends_same, ends_kept, ends_changed}
 
 -- ---- sums
 
@@ -27,26 +26,11 @@ pub l_mac : (form : Form) (guard : Guard) → IsCourse (Call op.LMac) form guard
 l_mac Plain guard in_place site a b c flag input small asked =
     ends_same (Accumulations.plain_keeps a b c asked.fit.0 asked.fit.1.0 asked.fit.1.1.0 (asked.unclipped refl)).0
 l_mac Clamp guard in_place site a b c flag input small asked =
-    let fx = asked.fit.0 in
-    let fa = asked.fit.1.0 in
-    let fb = asked.fit.1.1.0 in
-    let two = twice_of b c in
-    by_test (less two (pos 0))
-    (λ e. by_turned (less (multiplied b c) (pos 0))
-    (λ p. by_test (less (added a two) a) (λ f. ends_same (Accumulations.down_keeps a b c fx fa fb e p f).0) (λ f. ends_same (Accumulations.down_changes a b c fx fa fb e p f).0))
-    (λ p. by_turned (less (pos 0) a) (λ f. ends_same (Accumulations.corner_high a b c fx fa fb e p f).0) (λ f. ends_same (Accumulations.corner_low a b c fx fa fb e p f).0)))
-    (λ e. by_turned (less (added a two) a) (λ f. ends_same (Accumulations.up_changes a b c fx fa fb e f).0) (λ f. ends_same (Accumulations.up_keeps a b c fx fa fb e f).0))
+    Accumulations.adds a b c asked.fit.0 asked.fit.1.0 asked.fit.1.1.0 (λ v. Ends v flag input) (λ v. Ends v flag input) (λ v k. ends_same k.0) (λ v k. ends_same k.0)
 l_mac Flag guard in_place site a b c flag input small asked =
-    let fx = asked.fit.0 in
-    let fa = asked.fit.1.0 in
-    let fb = asked.fit.1.1.0 in
-    let two = twice_of b c in
     let clip = accumulation_clips a b c in
-    by_test (less two (pos 0))
-    (λ e. by_turned (less (multiplied b c) (pos 0))
-    (λ p. by_test (less (added a two) a) (λ f. let k = Accumulations.down_keeps a b c fx fa fb e p f in ends_kept flag clip k.0 k.1) (λ f. let k = Accumulations.down_changes a b c fx fa fb e p f in ends_changed flag clip k.0 k.1))
-    (λ p. by_turned (less (pos 0) a) (λ f. let k = Accumulations.corner_high a b c fx fa fb e p f in ends_changed flag clip k.0 k.1) (λ f. let k = Accumulations.corner_low a b c fx fa fb e p f in ends_changed flag clip k.0 k.1)))
-    (λ e. by_turned (less (added a two) a) (λ f. let k = Accumulations.up_changes a b c fx fa fb e f in ends_changed flag clip k.0 k.1) (λ f. let k = Accumulations.up_keeps a b c fx fa fb e f in ends_kept flag clip k.0 k.1))
+    Accumulations.adds a b c asked.fit.0 asked.fit.1.0 asked.fit.1.1.0 (λ v. Ends v flag input) (λ v. Ends v (added (pos 0) (pos 1)) input)
+    (λ v k. ends_kept flag clip k.0 k.1) (λ v k. ends_changed flag clip k.0 k.1)
 
 module _ (a b c : ℤ) (fx : FitsSigned w32 a) (fa : FitsSigned w16 b) (fb : FitsSigned w16 c) (flag : ℤ) (input : List ℤ) where
   mac_r_fits : FitsSigned w32 (accumulated a b c)
@@ -74,25 +58,11 @@ mac_r Plain guard in_place site a b c flag input small asked =
     let k = Accumulations.plain_keeps a b c asked.fit.0 asked.fit.1.0 asked.fit.1.1.0 (no_first _ _ (asked.unclipped refl)) in
     ends_same (ap (λ v. to_right_signed (added v (upper 8)) 16) k.0 ∙ plain_rounding (accumulated a b c) (clip_fits (a +ℤ clip32 (product_of b c))) (no_second _ _ (asked.unclipped refl)))
 mac_r Clamp guard in_place site a b c flag input small asked =
-    let fx = asked.fit.0 in
-    let fa = asked.fit.1.0 in
-    let fb = asked.fit.1.1.0 in
-    let two = twice_of b c in
-    by_test (less two (pos 0))
-    (λ e. by_turned (less (multiplied b c) (pos 0))
-    (λ p. by_test (less (added a two) a) (λ f. mac_r_clamp a b c fx fa fb flag input (Accumulations.down_keeps a b c fx fa fb e p f).0) (λ f. mac_r_clamp a b c fx fa fb flag input (Accumulations.down_changes a b c fx fa fb e p f).0))
-    (λ p. by_turned (less (pos 0) a) (λ f. mac_r_clamp a b c fx fa fb flag input (Accumulations.corner_high a b c fx fa fb e p f).0) (λ f. mac_r_clamp a b c fx fa fb flag input (Accumulations.corner_low a b c fx fa fb e p f).0)))
-    (λ e. by_turned (less (added a two) a) (λ f. mac_r_clamp a b c fx fa fb flag input (Accumulations.up_changes a b c fx fa fb e f).0) (λ f. mac_r_clamp a b c fx fa fb flag input (Accumulations.up_keeps a b c fx fa fb e f).0))
+    Accumulations.adds a b c asked.fit.0 asked.fit.1.0 asked.fit.1.1.0 (λ v. rounding v flag flag input) (λ v. rounding v flag flag input)
+    (λ v k. mac_r_clamp a b c asked.fit.0 asked.fit.1.0 asked.fit.1.1.0 flag input k.0) (λ v k. mac_r_clamp a b c asked.fit.0 asked.fit.1.0 asked.fit.1.1.0 flag input k.0)
 mac_r Flag guard in_place site a b c flag input small asked =
-    let fx = asked.fit.0 in
-    let fa = asked.fit.1.0 in
-    let fb = asked.fit.1.1.0 in
-    let two = twice_of b c in
-    by_test (less two (pos 0))
-    (λ e. by_turned (less (multiplied b c) (pos 0))
-    (λ p. by_test (less (added a two) a) (λ f. let k = Accumulations.down_keeps a b c fx fa fb e p f in mac_r_kept a b c fx fa fb flag input k.0 k.1) (λ f. let k = Accumulations.down_changes a b c fx fa fb e p f in mac_r_changed a b c fx fa fb flag input k.0 k.1))
-    (λ p. by_turned (less (pos 0) a) (λ f. let k = Accumulations.corner_high a b c fx fa fb e p f in mac_r_changed a b c fx fa fb flag input k.0 k.1) (λ f. let k = Accumulations.corner_low a b c fx fa fb e p f in mac_r_changed a b c fx fa fb flag input k.0 k.1)))
-    (λ e. by_turned (less (added a two) a) (λ f. let k = Accumulations.up_changes a b c fx fa fb e f in mac_r_changed a b c fx fa fb flag input k.0 k.1) (λ f. let k = Accumulations.up_keeps a b c fx fa fb e f in mac_r_kept a b c fx fa fb flag input k.0 k.1))
+    Accumulations.adds a b c asked.fit.0 asked.fit.1.0 asked.fit.1.1.0 (λ v. rounding v flag (added (pos 0) (pos 1)) input) (λ v. rounding v (added (pos 0) (pos 1)) (added (pos 0) (pos 1)) input)
+    (λ v k. mac_r_kept a b c asked.fit.0 asked.fit.1.0 asked.fit.1.1.0 flag input k.0 k.1) (λ v k. mac_r_changed a b c asked.fit.0 asked.fit.1.0 asked.fit.1.1.0 flag input k.0 k.1)
 
 -- ---- the operand alone
 
@@ -107,26 +77,11 @@ pub l_msu : (form : Form) (guard : Guard) → IsCourse (Call op.LMsu) form guard
 l_msu Plain guard in_place site a b c flag input small asked =
     ends_same (Reductions.plain_keeps a b c asked.fit.0 asked.fit.1.0 asked.fit.1.1.0 (asked.unclipped refl)).0
 l_msu Clamp guard in_place site a b c flag input small asked =
-    let fx = asked.fit.0 in
-    let fa = asked.fit.1.0 in
-    let fb = asked.fit.1.1.0 in
-    let two = twice_of b c in
-    by_test (less two (pos 0))
-    (λ e. by_turned (less (multiplied b c) (pos 0))
-    (λ p. by_test (less a (taken a two)) (λ f. ends_same (Reductions.down_keeps a b c fx fa fb e p f).0) (λ f. ends_same (Reductions.down_changes a b c fx fa fb e p f).0))
-    (λ p. by_turned (less a (added (pos 0) (negsuc 0))) (λ f. ends_same (Reductions.corner_low a b c fx fa fb e p f).0) (λ f. ends_same (Reductions.corner_high a b c fx fa fb e p f).0)))
-    (λ e. by_turned (less a (taken a two)) (λ f. ends_same (Reductions.up_changes a b c fx fa fb e f).0) (λ f. ends_same (Reductions.up_keeps a b c fx fa fb e f).0))
+    Reductions.takes a b c asked.fit.0 asked.fit.1.0 asked.fit.1.1.0 (λ v. Ends v flag input) (λ v. Ends v flag input) (λ v k. ends_same k.0) (λ v k. ends_same k.0)
 l_msu Flag guard in_place site a b c flag input small asked =
-    let fx = asked.fit.0 in
-    let fa = asked.fit.1.0 in
-    let fb = asked.fit.1.1.0 in
-    let two = twice_of b c in
     let clip = reduction_clips a b c in
-    by_test (less two (pos 0))
-    (λ e. by_turned (less (multiplied b c) (pos 0))
-    (λ p. by_test (less a (taken a two)) (λ f. let k = Reductions.down_keeps a b c fx fa fb e p f in ends_kept flag clip k.0 k.1) (λ f. let k = Reductions.down_changes a b c fx fa fb e p f in ends_changed flag clip k.0 k.1))
-    (λ p. by_turned (less a (added (pos 0) (negsuc 0))) (λ f. let k = Reductions.corner_low a b c fx fa fb e p f in ends_changed flag clip k.0 k.1) (λ f. let k = Reductions.corner_high a b c fx fa fb e p f in ends_changed flag clip k.0 k.1)))
-    (λ e. by_turned (less a (taken a two)) (λ f. let k = Reductions.up_changes a b c fx fa fb e f in ends_changed flag clip k.0 k.1) (λ f. let k = Reductions.up_keeps a b c fx fa fb e f in ends_kept flag clip k.0 k.1))
+    Reductions.takes a b c asked.fit.0 asked.fit.1.0 asked.fit.1.1.0 (λ v. Ends v flag input) (λ v. Ends v (added (pos 0) (pos 1)) input)
+    (λ v k. ends_kept flag clip k.0 k.1) (λ v k. ends_changed flag clip k.0 k.1)
 
 module _ (a b c : ℤ) (fx : FitsSigned w32 a) (fa : FitsSigned w16 b) (fb : FitsSigned w16 c) (flag : ℤ) (input : List ℤ) where
   msu_r_fits : FitsSigned w32 (reduced a b c)
@@ -154,22 +109,8 @@ msu_r Plain guard in_place site a b c flag input small asked =
     let k = Reductions.plain_keeps a b c asked.fit.0 asked.fit.1.0 asked.fit.1.1.0 (no_first _ _ (asked.unclipped refl)) in
     ends_same (ap (λ v. to_right_signed (added v (upper 8)) 16) k.0 ∙ plain_rounding (reduced a b c) (clip_fits (a -ℤ clip32 (product_of b c))) (no_second _ _ (asked.unclipped refl)))
 msu_r Clamp guard in_place site a b c flag input small asked =
-    let fx = asked.fit.0 in
-    let fa = asked.fit.1.0 in
-    let fb = asked.fit.1.1.0 in
-    let two = twice_of b c in
-    by_test (less two (pos 0))
-    (λ e. by_turned (less (multiplied b c) (pos 0))
-    (λ p. by_test (less a (taken a two)) (λ f. msu_r_clamp a b c fx fa fb flag input (Reductions.down_keeps a b c fx fa fb e p f).0) (λ f. msu_r_clamp a b c fx fa fb flag input (Reductions.down_changes a b c fx fa fb e p f).0))
-    (λ p. by_turned (less a (added (pos 0) (negsuc 0))) (λ f. msu_r_clamp a b c fx fa fb flag input (Reductions.corner_low a b c fx fa fb e p f).0) (λ f. msu_r_clamp a b c fx fa fb flag input (Reductions.corner_high a b c fx fa fb e p f).0)))
-    (λ e. by_turned (less a (taken a two)) (λ f. msu_r_clamp a b c fx fa fb flag input (Reductions.up_changes a b c fx fa fb e f).0) (λ f. msu_r_clamp a b c fx fa fb flag input (Reductions.up_keeps a b c fx fa fb e f).0))
+    Reductions.takes a b c asked.fit.0 asked.fit.1.0 asked.fit.1.1.0 (λ v. rounding v flag flag input) (λ v. rounding v flag flag input)
+    (λ v k. msu_r_clamp a b c asked.fit.0 asked.fit.1.0 asked.fit.1.1.0 flag input k.0) (λ v k. msu_r_clamp a b c asked.fit.0 asked.fit.1.0 asked.fit.1.1.0 flag input k.0)
 msu_r Flag guard in_place site a b c flag input small asked =
-    let fx = asked.fit.0 in
-    let fa = asked.fit.1.0 in
-    let fb = asked.fit.1.1.0 in
-    let two = twice_of b c in
-    by_test (less two (pos 0))
-    (λ e. by_turned (less (multiplied b c) (pos 0))
-    (λ p. by_test (less a (taken a two)) (λ f. let k = Reductions.down_keeps a b c fx fa fb e p f in msu_r_kept a b c fx fa fb flag input k.0 k.1) (λ f. let k = Reductions.down_changes a b c fx fa fb e p f in msu_r_changed a b c fx fa fb flag input k.0 k.1))
-    (λ p. by_turned (less a (added (pos 0) (negsuc 0))) (λ f. let k = Reductions.corner_low a b c fx fa fb e p f in msu_r_changed a b c fx fa fb flag input k.0 k.1) (λ f. let k = Reductions.corner_high a b c fx fa fb e p f in msu_r_changed a b c fx fa fb flag input k.0 k.1)))
-    (λ e. by_turned (less a (taken a two)) (λ f. let k = Reductions.up_changes a b c fx fa fb e f in msu_r_changed a b c fx fa fb flag input k.0 k.1) (λ f. let k = Reductions.up_keeps a b c fx fa fb e f in msu_r_kept a b c fx fa fb flag input k.0 k.1))
+    Reductions.takes a b c asked.fit.0 asked.fit.1.0 asked.fit.1.1.0 (λ v. rounding v flag (added (pos 0) (pos 1)) input) (λ v. rounding v (added (pos 0) (pos 1)) (added (pos 0) (pos 1)) input)
+    (λ v k. msu_r_kept a b c asked.fit.0 asked.fit.1.0 asked.fit.1.1.0 flag input k.0 k.1) (λ v k. msu_r_changed a b c asked.fit.0 asked.fit.1.0 asked.fit.1.1.0 flag input k.0 k.1)

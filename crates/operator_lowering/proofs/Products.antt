@@ -114,6 +114,14 @@ module _ (a b : ℤ) (fits_a : FitsSigned w16 a) (fits_b : FitsSigned w16 b) whe
       no : (p t two : ℤ) → pos 0 ≤ℤ p → p ≡ t → two ≡ pos 2 *ℤ t → two <ℤ pos 0 → ⊥
       no p t two low e f high = grind (arith, ints)
 
+  -- twice a product that is negative is negative
+  pub signs_agree : less twice (pos 0) ≡ false → less (multiplied a b) (pos 0) ≡ true → ⊥
+  signs_agree test sign =
+      no (multiplied a b) product twice (less_true _ _ sign) is.0 (ap (λ p. to_left p 1) is.0 ∙ (twice_is product is.1 is.2 (not_past_below sign)).0) (less_false _ _ test)
+    where
+      no : (p t two : ℤ) → p <ℤ pos 0 → p ≡ t → two ≡ pos 2 *ℤ t → pos 0 ≤ℤ two → ⊥
+      no p t two high e f low = grind (arith, ints)
+
   -- where no clip changes twice the product
   pub not_past_kept : changes32 (product_of a b) ≡ false → product <ℤ pos 1073741824
   not_past_kept none = by_greatest product is.2 (λ e. e) (λ e. let t = (twice_past e).2 in absurd (let f = none in cc))

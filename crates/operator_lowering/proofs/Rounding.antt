@@ -1,5 +1,5 @@
 -- The upper half of a number and 2^15, with its clip.
-use Rattle.std.proofs.Common.{◌≡◌, ℤ, pos, negsuc, ◌+ℤ◌, ◌-ℤ◌, ◌≤ℤ◌, ◌<ℤ◌, true, false, not, if◌then◌else◌, List, refl, sym, ap, ◌∙◌, subst, arith, ⊎_elim}
+use Rattle.std.proofs.Common.{◌≡◌, ℤ, pos, ◌+ℤ◌, ◌-ℤ◌, ◌≤ℤ◌, ◌<ℤ◌, true, false, not, if◌then◌else◌, List, refl, sym, ap, ◌∙◌, subst, arith, ⊎_elim}
 use Rattle.std.specs.Prelude.{FitsSigned}
 use Rattle.std.specs.Int.{w32}
 use Rattle.std.proofs.lemmas.Int.{ints}
@@ -23,15 +23,16 @@ pub upper_half : (a : ℤ) → FitsSigned w32 a → to_right_signed a 16 ≡ flo
 unfolding to_right_signed
 upper_half a fits = grind (arith, ints)
 
-greatest_half : to_right_signed (added (upper 0x80000) (negsuc 0)) 16 ≡ floor (pos 2147483647) 65536
-unfolding to_right_signed added upper
-greatest_half = refl
+-- what is so great that 2^15 more is clipped has the upper half of the clip
+upper_half_past : (a : ℤ) → FitsSigned w32 a → pos 2147483647 <ℤ (a +ℤ pos 32768) → to_right_signed (added a (pos 0)) 16 ≡ floor (pos 2147483647) 65536
+unfolding to_right_signed added
+upper_half_past a fits over = grind (arith, ints)
 
 -- what the words make of a number, and what is left of Overflow
 abbrev pub rounding : (v kept changed : ℤ) → List ℤ → Final
 rounding v kept changed input =
     if not (less (added v (upper 8)) v) then Ends (to_right_signed (added v (upper 8)) 16) kept input
-    else Ends (to_right_signed (added (upper 0x80000) (negsuc 0)) 16) changed input
+    else Ends (to_right_signed (added v (pos 0)) 16) changed input
 
 module _ (v : ℤ) (fits : FitsSigned w32 v) where
   half_is : added v (upper 8) ≡ added v (pos 32768)
@@ -58,12 +59,12 @@ module _ (v : ℤ) (fits : FitsSigned w32 v) where
       not_over : v ≤ℤ added v (pos 32768) → added v (pos 32768) ≡ v +ℤ pos 32768 -ℤ pos 4294967296 → ⊥
       not_over low is = grind (arith, ints)
 
-  past : less (added v (upper 8)) v ≡ true → (to_right_signed (added (upper 0x80000) (negsuc 0)) 16 ≡ rounded v) × (rounding_clips v ≡ true)
+  past : less (added v (upper 8)) v ≡ true → (to_right_signed (added v (pos 0)) 16 ≡ rounded v) × (rounding_clips v ≡ true)
   past test =
       let high : added v (pos 32768) <ℤ v = subst (λ x. x <ℤ v) half_is (less_true _ _ test) in
       let over = ⊎_elim (λ inside. absurd (not_inside high inside.1)) (λ outside. ⊎_elim (λ more. more.0.0) (λ fewer. absurd (not_under fewer.0)) outside) wraps in
       let k = above32 (v +ℤ pos 32768) over in
-      (greatest_half ∙ ap (λ x. floor x 65536) k.0, k.1)
+      (upper_half_past v fits over ∙ ap (λ x. floor x 65536) k.0, k.1)
     where
       not_inside : added v (pos 32768) <ℤ v → added v (pos 32768) ≡ v +ℤ pos 32768 → ⊥
       not_inside high is = grind (arith, ints)

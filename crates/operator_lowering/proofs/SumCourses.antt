@@ -12,7 +12,7 @@ use Rattle.operator_meaning.specs.declared.site.Form.TheVariants.{Plain, Clamp, 
 use Rattle.operator_meaning.specs.declared.site.Guard.{Guard}
 use Rattle.template_runs.specs.Values.{added, taken, less, equal, other_bits, upper, to_right_signed}
 use Rattle.operator_lowering.specs.Courses.{IsCourse}
-use Rattle.operator_lowering.proofs.Numbers.{less_true, less_false, equal_true, equal_false, kept16, above16, below16, by_range16, kept32, range_of_kept16, range_of_kept32}
+use Rattle.operator_lowering.proofs.Numbers.{less_true, less_false, equal_true, equal_false, kept16, above16, below16, by_range16, by_range32, kept32, range_of_kept16, range_of_kept32}
 use Rattle.operator_lowering.proofs.Sums.{IsExact, IsWrapped, exact, wrapped, added_wraps, taken_wraps, added_within, taken_within, low_half, half_within, half_above, half_below, sign_negative, sign_positive}
 use Rattle.operator_lowering.proofs.Trees.{by_test, by_turned, ends_same, ends_kept, ends_changed}
 
@@ -45,6 +45,31 @@ module _ (a b : ℤ) (fits_a : FitsSigned w32 a) (fits_b : FitsSigned w32 b) whe
       let p = less_true _ _ sign in
       let q = less_false _ _ test in
       wrapped (a +ℤ b) s (added_wraps a b fits_a fits_b) (λ inside is. grind (arith, ints))
+
+  -- at which end a sum wrapped
+  pub up_over : less b (pos 0) ≡ false → less s a ≡ true → pos 2147483647 <ℤ (a +ℤ b)
+  up_over sign test =
+      let p = less_false _ _ sign in
+      let q = less_true _ _ test in
+      by_range32 (a +ℤ b) (λ low high. absurd (not_inside p q (added_within a b fits_a fits_b low high))) (λ over. over) (λ under. absurd (not_under p under))
+    where
+      not_inside : pos 0 ≤ℤ b → s <ℤ a → s ≡ a +ℤ b → ⊥
+      not_inside p q is = grind (arith, ints)
+
+      not_under : pos 0 ≤ℤ b → (a +ℤ b) <ℤ negsuc 2147483647 → ⊥
+      not_under p under = grind (arith, ints)
+
+  pub down_under : less b (pos 0) ≡ true → less s a ≡ false → (a +ℤ b) <ℤ negsuc 2147483647
+  down_under sign test =
+      let p = less_true _ _ sign in
+      let q = less_false _ _ test in
+      by_range32 (a +ℤ b) (λ low high. absurd (not_inside p q (added_within a b fits_a fits_b low high))) (λ over. absurd (not_over p over)) (λ under. under)
+    where
+      not_inside : b <ℤ pos 0 → a ≤ℤ s → s ≡ a +ℤ b → ⊥
+      not_inside p q is = grind (arith, ints)
+
+      not_over : b <ℤ pos 0 → pos 2147483647 <ℤ (a +ℤ b) → ⊥
+      not_over p over = grind (arith, ints)
 
 pub l_add : (form : Form) (guard : Guard) → IsCourse (Call op.LAdd) form guard
 l_add Plain guard in_place site a b c flag input small asked =
@@ -104,6 +129,31 @@ module _ (a b : ℤ) (fits_a : FitsSigned w32 a) (fits_b : FitsSigned w32 b) whe
       let p = less_true _ _ sign in
       let q = less_false _ _ test in
       wrapped (a -ℤ b) d (taken_wraps a b fits_a fits_b) (λ inside is. grind (arith, ints))
+
+  -- at which end a difference wrapped
+  pub less_under : less b (pos 0) ≡ false → less a d ≡ true → (a -ℤ b) <ℤ negsuc 2147483647
+  less_under sign test =
+      let p = less_false _ _ sign in
+      let q = less_true _ _ test in
+      by_range32 (a -ℤ b) (λ low high. absurd (not_inside p q (taken_within a b fits_a fits_b low high))) (λ over. absurd (not_over p over)) (λ under. under)
+    where
+      not_inside : pos 0 ≤ℤ b → a <ℤ d → d ≡ a -ℤ b → ⊥
+      not_inside p q is = grind (arith, ints)
+
+      not_over : pos 0 ≤ℤ b → pos 2147483647 <ℤ (a -ℤ b) → ⊥
+      not_over p over = grind (arith, ints)
+
+  pub less_over : less b (pos 0) ≡ true → less a d ≡ false → pos 2147483647 <ℤ (a -ℤ b)
+  less_over sign test =
+      let p = less_true _ _ sign in
+      let q = less_false _ _ test in
+      by_range32 (a -ℤ b) (λ low high. absurd (not_inside p q (taken_within a b fits_a fits_b low high))) (λ over. over) (λ under. absurd (not_under p under))
+    where
+      not_inside : b <ℤ pos 0 → d ≤ℤ a → d ≡ a -ℤ b → ⊥
+      not_inside p q is = grind (arith, ints)
+
+      not_under : b <ℤ pos 0 → (a -ℤ b) <ℤ negsuc 2147483647 → ⊥
+      not_under p under = grind (arith, ints)
 
 pub l_sub : (form : Form) (guard : Guard) → IsCourse (Call op.LSub) form guard
 l_sub Plain guard in_place site a b c flag input small asked =

@@ -39,21 +39,19 @@ pub(crate) static MAC_PLAIN: [Instr; 6] = plain_half!(add);
 pub(crate) static MSU_PLAIN: [Instr; 6] = plain_half!(sub);
 
 // The sum, with a clip to 32 bits of twice the product and of the sum. Twice the product is 2^31 alone where it is negative
-// and the product is not. The first operand is read after the sum is written.
+// and the product is not. A sum that is too great without that has a first operand above 0, so the words for 2^31 give
+// its end too, and what is left is too small. The first operand is read after the sum is written.
 macro_rules! accumulated {
     ($sum:ident, $size:literal; $($flag:tt)*) => {
         words![
             mul T0, SECOND, THIRD;
             slli T1, T0, 1;
             add $sum, FIRST, T1;
-            blt T1, ZERO, 12;
-            bge $sum, FIRST, 52 + $size;
-            jal ZERO, 12;
-            bge T0, ZERO, 24;
-            blt $sum, FIRST, 40 + $size;
-            srai T0, $sum, 31;
+            blt T1, ZERO, 8;
+            bge $sum, FIRST, 40 + $size;
+            bge T0, ZERO, 16;
+            blt $sum, FIRST, 32 + $size;
             lui $sum, 0x80000;
-            xor $sum, $sum, T0;
             jal ZERO, 24;
             lui T1, 0x80000;
             addi T1, T1, -1;
@@ -65,46 +63,43 @@ macro_rules! accumulated {
     };
 }
 
-pub(crate) static L_MAC_CLAMP: [Instr; 17] = accumulated!(RESULT, 0;);
+pub(crate) static L_MAC_CLAMP: [Instr; 14] = accumulated!(RESULT, 0;);
 
-pub(crate) static L_MAC_FLAG: [Instr; 18] = accumulated!(RESULT, 4; addi OVERFLOW, ZERO, 1;);
+pub(crate) static L_MAC_FLAG: [Instr; 15] = accumulated!(RESULT, 4; addi OVERFLOW, ZERO, 1;);
 
-pub(crate) static MAC_CLAMP: [Instr; 17] = accumulated!(T2, 0;);
+pub(crate) static MAC_CLAMP: [Instr; 14] = accumulated!(T2, 0;);
 
-pub(crate) static MAC_FLAG: [Instr; 18] = accumulated!(T2, 4; addi OVERFLOW, ZERO, 1;);
+pub(crate) static MAC_FLAG: [Instr; 15] = accumulated!(T2, 4; addi OVERFLOW, ZERO, 1;);
 
-// The difference, with a clip to 32 bits of twice the product and of the difference. The first operand is read after the
-// difference is written.
+// The difference, with a clip to 32 bits of twice the product and of the difference. One that is too small without a
+// product of 2^30 has a first operand below 0, and takes the words for that product; what is left is too great. The first
+// operand is read after the difference is written.
 macro_rules! reduced {
     ($difference:ident, $size:literal; $($flag:tt)*) => {
         words![
             mul T0, SECOND, THIRD;
             slli T1, T0, 1;
             sub $difference, FIRST, T1;
-            blt T1, ZERO, 12;
-            bge FIRST, $difference, 56 + $size;
-            jal ZERO, 12;
-            bge T0, ZERO, 24;
-            blt FIRST, $difference, 44 + $size;
-            srai T0, $difference, 31;
+            blt T1, ZERO, 8;
+            bge FIRST, $difference, 40 + $size;
+            bge T0, ZERO, 20;
+            blt FIRST, $difference, 32 + $size;
             lui $difference, 0x80000;
-            xor $difference, $difference, T0;
-            jal ZERO, 28;
-            lui T0, 0x80000;
-            addi T0, T0, -1;
+            addi $difference, $difference, -1;
+            jal ZERO, 20;
+            addi T0, T1, -1;
             sub $difference, FIRST, T0;
-            addi T0, ZERO, -1;
-            bge FIRST, T0, 8;
+            bge FIRST, ZERO, 8;
             lui $difference, 0x80000;
             $($flag)*
         ]
     };
 }
 
-pub(crate) static L_MSU_CLAMP: [Instr; 18] = reduced!(RESULT, 0;);
+pub(crate) static L_MSU_CLAMP: [Instr; 14] = reduced!(RESULT, 0;);
 
-pub(crate) static L_MSU_FLAG: [Instr; 19] = reduced!(RESULT, 4; addi OVERFLOW, ZERO, 1;);
+pub(crate) static L_MSU_FLAG: [Instr; 15] = reduced!(RESULT, 4; addi OVERFLOW, ZERO, 1;);
 
-pub(crate) static MSU_CLAMP: [Instr; 18] = reduced!(T2, 0;);
+pub(crate) static MSU_CLAMP: [Instr; 14] = reduced!(T2, 0;);
 
-pub(crate) static MSU_FLAG: [Instr; 19] = reduced!(T2, 4; addi OVERFLOW, ZERO, 1;);
+pub(crate) static MSU_FLAG: [Instr; 15] = reduced!(T2, 4; addi OVERFLOW, ZERO, 1;);

@@ -73,25 +73,25 @@ pub(crate) static ROUND_PLAIN: [Instr; 3] = words![
     srai RESULT, T1, 16;
 ];
 
-// The same of a register, the sum clipped to 32 bits.
+// The same of a register, the sum clipped to 32 bits. What is so great that the sum is clipped has 32767 as its own upper
+// half, as 2^31 - 1 has.
 macro_rules! rounded {
     ($number:ident, $size:literal; $($flag:tt)*) => {
         words![
             lui T0, 8;
             add T1, $number, T0;
-            bge T1, $number, 12 + $size;
-            lui T1, 0x80000;
-            addi T1, T1, -1;
+            bge T1, $number, 8 + $size;
+            addi T1, $number, 0;
             $($flag)*
             srai RESULT, T1, 16;
         ]
     };
 }
 
-pub(crate) static ROUND_CLAMP: [Instr; 6] = rounded!(FIRST, 0;);
+pub(crate) static ROUND_CLAMP: [Instr; 5] = rounded!(FIRST, 0;);
 
-pub(crate) static ROUND_FLAG: [Instr; 7] = rounded!(FIRST, 4; addi OVERFLOW, ZERO, 1;);
+pub(crate) static ROUND_FLAG: [Instr; 6] = rounded!(FIRST, 4; addi OVERFLOW, ZERO, 1;);
 
-pub(crate) static ROUND_SUM_CLAMP: [Instr; 6] = rounded!(T2, 0;);
+pub(crate) static ROUND_SUM_CLAMP: [Instr; 5] = rounded!(T2, 0;);
 
-pub(crate) static ROUND_SUM_FLAG: [Instr; 7] = rounded!(T2, 4; addi OVERFLOW, ZERO, 1;);
+pub(crate) static ROUND_SUM_FLAG: [Instr; 6] = rounded!(T2, 4; addi OVERFLOW, ZERO, 1;);
