@@ -55,11 +55,7 @@ impl Scope<'_> {
     }
 
     /// Adds the cuts of the function.
-    fn add_cuts(
-        &self,
-        function: &IrFunction<'_>,
-        cuts: &mut Items<CutPlace>,
-    ) -> Result<(), Memory>
+    fn add_cuts(&self, function: &IrFunction<'_>, cuts: &mut Items<CutPlace>) -> Result<(), Memory>
         ensures { OnOk result (cuts.new ≡ cuts.old ++ function_cuts self.now.objects.now self.now.function (function_of function.now)) }
     {
         let variables = self.tracked(function.params.as_slice())?;

@@ -55,10 +55,7 @@ pub fn numbers_of(
 pub fn defined(alloc: Global, definitions: &IndexMap<u32, At>) -> Result<Items<u32>, Memory>
     ensures { IfOk result (λ numbers. numbers ≡ numbers_defined definitions.now.entries) }
 {
-    let numbers = definitions
-        .keys()
-        .map(|number| *number)
-        .collect(alloc)?;
+    let numbers = definitions.keys().map(|number| *number).collect(alloc)?;
     Ok(Items::from_vec(numbers))
 }
 

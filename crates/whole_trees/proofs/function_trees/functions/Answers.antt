@@ -29,8 +29,9 @@ named functions defined i source within is =
 pub loop-number-preserved : goal.loop-number-preserved
 loop-number-preserved c =
     let number = get_or c.args.defined.now c.loop-number.number-index 0 in
-    let there : function_at c.args.functions.now number ≡ c.in-Some.source.now = unwrap_or-slice_get c.args.functions.now number nameless ∙ sym (c.in-Some.ensures.lookup.3.1 nameless) in
-    (rw (c.in_ok-push.ensures.ok, map_push, append_assoc, c.in_ok-next.ensures.tree, c.in_ok-next.ensures.cuts)
-    (ap (λ (more : List TreeFunction). map function_of c.loop-number.made ++ more) (sym (along (setting c.args.build.now) c.args.functions.now c.args.defined.now c.loop-number.number-index c.loop-number.first c.in-Some.source.now c.loop-number-test.true there)) ∙ c.loop-number.invariant.0),
-    rw (c.in_ok-push.ensures.ok, map_push, append_assoc, c.in_ok-next.ensures.name)
-    (ap (λ more. map (λ (function : IrFunction). function.name) c.loop-number.made ++ more) (sym (named c.args.functions.now c.args.defined.now c.loop-number.number-index c.in-Some.source.now c.loop-number-test.true there)) ∙ c.loop-number.invariant.1))
+    let there : function_at c.args.functions.now number ≡ c.in-Some.source.now = unwrap_or-slice_get c.args.functions.now number nameless ∙ sym (c.in-Some.ensures.lookup.3.1 nameless) in (
+      rw (c.in_ok-push.ensures.ok, map_push, append_assoc, c.in_ok-next.ensures.tree, c.in_ok-next.ensures.cuts)
+          (ap (λ (more : List TreeFunction). map function_of c.loop-number.made ++ more) (sym (along (setting c.args.build.now) c.args.functions.now c.args.defined.now c.loop-number.number-index c.loop-number.first c.in-Some.source.now c.loop-number-test.true there)) ∙ c.loop-number.invariant.0),
+      rw (c.in_ok-push.ensures.ok, map_push, append_assoc, c.in_ok-next.ensures.name)
+          (ap (λ more. map (λ (function : IrFunction). function.name) c.loop-number.made ++ more) (sym (named c.args.functions.now c.args.defined.now c.loop-number.number-index c.in-Some.source.now c.loop-number-test.true there)) ∙ c.loop-number.invariant.1),
+    )

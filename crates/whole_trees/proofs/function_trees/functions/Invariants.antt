@@ -8,6 +8,6 @@ use Rattle.whole_trees.proofs.function_trees.functions.Given as goal
 abbrev pub invariant-loop-number : goal.invariant-loop-number
 invariant-loop-number l =
     (map function_of l.made ++ functions_along (setting l.build) (map (function_at l.functions) (drop l.number-index l.defined)) l.first
-     ≡ functions_along (setting l.build) (map (function_at l.functions) l.defined) 0)
+    ≡ functions_along (setting l.build) (map (function_at l.functions) l.defined) 0)
     × (map (λ (function : IrFunction). function.name) l.made ++ map (λ (number : ℕ). (function_at l.functions number).name) (drop l.number-index l.defined)
-     ≡ map (λ (number : ℕ). (function_at l.functions number).name) l.defined)
+    ≡ map (λ (number : ℕ). (function_at l.functions number).name) l.defined)
