@@ -1,0 +1,23 @@
+use Rattle.std.proofs.lemmas.Result.{IfOk-weaker}
+use Rattle.source_agreement.specs.Agreement.{HasTree}
+use Rattle.ir_build.specs.Built.{IsTreeOf, DoesAs}
+use Rattle.ir_build.proofs.Fields.{HasFields, is_tree, with_fields}
+use Rattle.ir_build.proofs.Runs.{trees_do}
+use Rattle.ir_build.proofs.whole.build.Goals as goal
+
+pub returns : goal.returns
+returns c =
+    let typed = c.args.typed.now in
+    let definitions = c.in_ok-definitions.definitions.entries in
+    let made = c.in_ok-functions.functions in
+    let has = c.with_functions.ensures in
+    let tree =
+    IfOk-weaker c.with_functions.result (HasFields typed definitions made) (IsTreeOf typed)
+    (λ ir fields. record {
+      definitions = definitions;
+      are = c.in_ok-definitions.ensures;
+      is = is_tree typed definitions made ir (record { trees = c.in_ok-functions.ensures.trees; names = c.in_ok-functions.ensures.names }) fields;
+    })
+    (with_fields typed definitions made c.with_functions.result has.functions has.main has.objects has.sites has.cuts has.constants has.weights)
+    in
+    record { tree = tree; runs = IfOk-weaker c.with_functions.result (IsTreeOf typed) (λ ir. HasTree typed → DoesAs typed ir) (trees_do typed) tree }
