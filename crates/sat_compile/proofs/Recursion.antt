@@ -1,11 +1,14 @@
 -- A tree whose functions have an order has no recursion, however it is tied; and how faults are passed on.
-use Rattle.std.proofs.Common.{◌≡◌, ℕ, zero, suc, List, map, sym, ap, ◌∙◌, subst, inl, inr, Contains, slice_get}
+use Rattle.std.proofs.Common.{◌≡◌, ℕ, zero, suc, ℤ, List, map, sym, ap, ◌∙◌, subst, inl, inr, Contains, slice_get}
 use Rattle.c_tree.specs.declared.program.Program.{Program}
 use Rattle.c_typed.specs.declared.typed.Typed.{Typed}
 use Rattle.c_types.specs.Tied.{IsTyped, source_with}
 use Rattle.c_types.specs.Tied.{IsRefused}
 use Rattle.c_types.proofs.Sorted_once.{one-sorted}
+use Rattle.operator_meaning.specs.declared.object.Object.{Object}
 use Rattle.operator_meaning.specs.declared.object.Site.{Site}
+use Rattle.c_typed.specs.declared.typed.TypedFunction.{TypedFunction}
+use Rattle.tied_names.specs.Numbers.{token_of}
 use Rattle.call_structure.specs.declared.refusal.OrderRefusal.TheVariants.{Recursive}
 use Rattle.call_structure.specs.Calls.{called_in_function}
 use Rattle.call_structure.specs.Reaching.{IsDefined, CallsFunction, CallWalk}
@@ -16,13 +19,28 @@ use Rattle.sat_compile.specs.declared.refusal.CompileRefusal.{CompileRefusal}
 use Rattle.sat_compile.specs.Checked.{IsChecked, IsRecursive, IsUnchecked}
 use Rattle.sat_compile.specs.Passing.{IsFaultPassed}
 use Rattle.sat_compile.specs.Passing as passing
-use Rattle.tied_names.specs.Numbers.{token_of}
 
--- the functions of a tree, in whatever way it is tied
+typed_with : List Object → List TypedFunction → List Site → List ℤ → ℕ → Typed
+typed_with objects functions sites constants weights = record { objects = objects; functions = functions; sites = sites; constants = constants; weights = weights }
+
+-- a tree is tied in one way
+pub one_typed : (program : Program) (a b : Typed) → IsTyped program a → IsTyped program b → a ≡ b
+unfolding typed_with
+one_typed program a b one other =
+    let p = one.tied in
+    let q = other.tied in
+    let sites : a.sites ≡ b.sites = one-sorted a.sites b.sites p.in_order q.in_order (λ x. p.stable x ∙ sym (q.stable x)) in
+    let objects : a.objects ≡ b.objects = p.objects ∙ ap (λ (s : List Site). (source_with program (map token_of s)).here.objects) sites ∙ sym q.objects in
+    let functions : a.functions ≡ b.functions = p.functions ∙ ap (λ (s : List Site). (source_with program (map token_of s)).functions) sites ∙ sym q.functions in
+    ap (λ (o : List Object). typed_with o a.functions a.sites a.constants a.weights) objects
+    ∙ ap (λ (f : List TypedFunction). typed_with b.objects f a.sites a.constants a.weights) functions
+    ∙ ap (λ (s : List Site). typed_with b.objects b.functions s a.constants a.weights) sites
+    ∙ ap (λ (k : List ℤ). typed_with b.objects b.functions b.sites k a.weights) (p.constants ∙ sym q.constants)
+    ∙ ap (λ (w : ℕ). typed_with b.objects b.functions b.sites b.constants w) (p.weights ∙ sym q.weights)
+
+-- so its functions are the same
 same_functions : (program : Program) (a b : Typed) → IsTyped program a → IsTyped program b → a.functions ≡ b.functions
-same_functions program a b one other =
-    let sites : a.sites ≡ b.sites = one-sorted a.sites b.sites one.tied.in_order other.tied.in_order (λ x. one.tied.stable x ∙ sym (other.tied.stable x)) in
-    one.tied.functions ∙ ap (λ (s : List Site). (source_with program (map token_of s)).functions) sites ∙ sym other.tied.functions
+same_functions program a b one other = ap (λ (t : Typed). t.functions) (one_typed program a b one other)
 
 -- ---- walks are those of the functions
 

@@ -47,3 +47,10 @@ pub record MayShow (text line : List ℕ) : Type 0 where
 -- why there is no source in the text, whatever form it has
 abbrev pub IsNoSource : List ℕ → CompileRefusal → Type 0
 IsNoSource text refusal = IsCause text refusal × (refusal ≢ NotYet)
+
+-- the line tells why there is no source in the text
+pub record TellsNoSource (text line : List ℕ) : Type 0 where
+  pub refusal : CompileRefusal
+  pub other : refusal ≢ Memory
+  pub none : IsNoSource text refusal
+  pub told : line ≡ refusal_line refusal

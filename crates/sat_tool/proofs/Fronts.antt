@@ -18,7 +18,7 @@ whole file bytes front short =
 longer : (file bytes : List ℕ) → bytes ≡ take (SOURCE_BYTES + 1) file → SOURCE_BYTES < length bytes → SOURCE_BYTES < length file
 longer file bytes front long = omega (arith, ap length front, length-take (SOURCE_BYTES + 1) file)
 
-cause_of_file : (file bytes : List ℕ) (refusal : CompileRefusal) → bytes ≡ take (SOURCE_BYTES + 1) file → IsCause bytes refusal → IsCause file refusal
+pub cause_of_file : (file bytes : List ℕ) (refusal : CompileRefusal) → bytes ≡ take (SOURCE_BYTES + 1) file → IsCause bytes refusal → IsCause file refusal
 cause_of_file file bytes TooLong front cause = longer file bytes front cause
 cause_of_file file bytes (Lex kind at) front cause = subst (λ b. IsCause b (Lex kind at)) (whole file bytes front cause.0) cause
 cause_of_file file bytes (Syntax tok at) front cause = subst (λ b. IsCause b (Syntax tok at)) (whole file bytes front cause.1.short) cause

@@ -12,18 +12,19 @@ use Rattle.sat_compile.specs.Promise.{Compiles, AreEntriesOf}
 use Rattle.sat_compile.specs.Source.{Source, Treatment}
 use Rattle.sat_compile.proofs.Accepted.{one_source, not_shown}
 use Rattle.store_io.specs.Outside.{Files, Rose, IsCalm, IsMissing, files_with, text_with}
-use Rattle.sat_tool.specs.declared.outcome.Outcome.{Outcome}
+use Rattle.command_outcomes.specs.declared.outcome.Outcome.{Outcome}
 use Rattle.sat_tool.specs.Build.{IsUnfit, IsDone}
-use Rattle.sat_tool.specs.Command.{Command, Build, RunImage, IsCommand}
+use Rattle.sat_tool.specs.Command.{Build}
 use Rattle.sat_tool.specs.Commands.{inputs_of}
 use Rattle.sat_tool.specs.Commands as Commands
 use Rattle.sat_tool.specs.Files.{Output}
 use Rattle.sat_tool.specs.Headline.{IsHonest, AsksToBuild, BuildsAccepted, RefusesOthers}
-use Rattle.sat_tool.specs.Lines.{sites_line}
+use Rattle.command_outcomes.specs.Lines.{sites_line}
 use Rattle.sat_tool.specs.Run.{IsRun, Comes, Course, Unread, Writes, Tells, IsTextOf}
 use Rattle.sat_tool.specs.Run as run
-use Rattle.sat_tool.specs.Statuses.{status_of, text_of}
+use Rattle.command_outcomes.specs.Statuses.{status_of, text_of}
 use Rattle.sat_tool.specs.World.{StoreView, SinkView, World}
+use Rattle.sat_tool.proofs.Asked.{one_command}
 
 pub not_both : (before now : ℕ) → IsCalm before now → Rose before now → ⊥
 not_both before now calm rose = omega (arith, calm, rose)
@@ -103,13 +104,8 @@ module _ (files : Files) (name target text : List ℕ) (held : map.get files nam
   coursed old new outcome is calm (run.stops why same) = unread old new outcome is calm why
   coursed old new outcome is calm (run.refuses read of unfit same) =
       Refuses (subst (λ t. IsUnfit t outcome) (same_text old read is of) unfit) (same ∙ is)
-  coursed old new outcome is calm (run.reads {mid = mid} read of same later rest) =
+  coursed old new outcome is calm (run.reads {mid = mid} read of fit same later rest) =
       ended (read ∷ []) mid new outcome (ap (λ t. t ∷ []) (same_text old read is of)) (same ∙ is) (calm_since old.faults mid.faults new.faults later calm) rest
-
--- the words ask for nothing else
-one_command : (words : List (List ℕ)) (name target : List ℕ) (command : Command) → IsCommand words command → IsCommand words (Build name target) → command ≡ Build name target
-one_command words name target (Build s t) is asked = let a = is.0 in let b = asked.0 in cc
-one_command words name target (RunImage image input output steps) is asked = let a = is.are in let b = asked.0 in cc
 
 -- ---- the two promises
 
@@ -119,7 +115,7 @@ came : (words : List (List ℕ)) (files : Files) (text target : List ℕ) (asks 
 came words files text target asks old new outcome told calm (run.nowhere none) = absurd (none (Build asks.name target) asks.asked)
 came words files text target asks old new outcome told calm (run.along command is course) =
     coursed files asks.name target text asks.held old new outcome told calm
-    (subst (λ c. Course c (inputs_of c) [] old new outcome) (one_command words asks.name target command is asks.asked) course)
+    (subst (λ c. Course c (inputs_of c) [] old new outcome) (one_command words command (Build asks.name target) is asks.asked) course)
 
 module _ (words : List (List ℕ)) (old new : World) (status : ℕ) (files : Files) (written text target : List ℕ)
     (honest : IsHonest files written old new) (asks : AsksToBuild words files text target) where

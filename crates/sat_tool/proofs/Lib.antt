@@ -1,4 +1,6 @@
+pub mod Asked
 pub mod Digits
+pub mod Fit
 pub mod Fronts
 pub mod Headline
 pub mod RunHeadline

@@ -2,7 +2,7 @@
 use Rattle.std.proofs.Common.{◌≡◌, ℕ, ◌+◌, ◌≤◌, List, [], Option, Some, None, Result, Ok, Err, take, sym, ◌∙◌, subst, inl, inr}
 use Rattle.sat_base.specs.declared.limits.TheConstants.{SOURCE_BYTES}
 use Rattle.store_io.specs.Outside.{Files, ReadsFile}
-use Rattle.sat_tool.specs.declared.outcome.Outcome.{Outcome}
+use Rattle.command_outcomes.specs.declared.outcome.Outcome.{Outcome}
 use Rattle.sat_tool.specs.Build.{IsUnfit, IsDone}
 use Rattle.sat_tool.specs.Command.{Build}
 use Rattle.sat_tool.specs.Commands.{inputs_of}
@@ -40,9 +40,7 @@ module _ (source target bytes : List ℕ) (old mid new : StoreView) (read : Read
       let text = text_read (λ b. IsUnfit b outcome) old.files source bytes (unfit_of_file outcome bytes) read unfit in
       run.refuses text.0 text.1 text.2 (kept ∙ same)
   serves outcome (outcomes.stops (inr none) kept) =
-      let text = text_read (λ b. Unit {0}) old.files source bytes (λ file front u. u) read tt in
-      subst (Course (Build source target) (inputs_of (Build source target)) [] old new) (sym none)
-      (run.reads text.0 text.1 same later (run.wants_memory kept))
+      subst (Course (Build source target) (inputs_of (Build source target)) [] old new) (sym none) (run.stops run.wants_memory (kept ∙ same))
   serves outcome (outcomes.writes {output = output} {done = done} is write) =
       let text = text_read (λ b. IsDone b target (Some output) done) old.files source bytes (done_of_file target (Some output) done bytes) read is in
-      run.reads text.0 text.1 same later (run.writes text.2 write)
+      run.reads text.0 text.1 (text.2.of.source, text.2.of.accepted) same later (run.writes text.2 write)

@@ -4,9 +4,9 @@ use Rattle.image_format.specs.declared.image.Image.{Image}
 use Rattle.image_format.specs.ImageBytes.{image_bytes}
 use Rattle.sat_compile.specs.Accepted.{IsImageOf}
 use Rattle.sat_compile.specs.Causes.{MayShow}
-use Rattle.sat_tool.specs.declared.outcome.Outcome.{Outcome}
-use Rattle.sat_tool.specs.declared.outcome.Outcome.TheVariants.{Done, Refused}
-use Rattle.sat_tool.specs.Lines.{sites_line}
+use Rattle.command_outcomes.specs.declared.outcome.Outcome.{Outcome}
+use Rattle.command_outcomes.specs.declared.outcome.Outcome.TheVariants.{Done, Refused}
+use Rattle.command_outcomes.specs.Lines.{sites_line}
 use Rattle.sat_tool.specs.Files.{Output}
 
 -- the text is not accepted, as a line tells

@@ -10,7 +10,7 @@ use Rattle.sat_compile.specs.Promise.{Compiles}
 use Rattle.sat_compile.specs.Source.{Source}
 use Rattle.store_io.specs.Outside.{Files, IsCalm}
 use Rattle.sat_tool.specs.Command.{Build, IsCommand}
-use Rattle.sat_tool.specs.Lines.{sites_line}
+use Rattle.command_outcomes.specs.Lines.{sites_line}
 use Rattle.sat_tool.specs.World.{World}
 
 -- Store and sink tell what they hold, these files and what was written, and count no fault.

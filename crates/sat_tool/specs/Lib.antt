@@ -4,14 +4,14 @@ pub mod Commands
 pub mod Files
 pub mod Gathered
 pub mod Headline
-pub mod Lines
+pub mod Input
 pub mod Numbers
 pub mod Outcomes
 pub mod Reading
 pub mod Run
 pub mod RunHeadline
 pub mod RunImage
-pub mod RunLines
-pub mod Statuses
+pub mod RunResult
+pub mod RunSource
 pub mod Words
 pub mod World

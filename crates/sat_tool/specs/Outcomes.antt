@@ -1,7 +1,7 @@
 -- What the steps of a command come to.
 use Rattle.std.specs.Prelude.{◌≡◌, ℕ, ◌⊎◌, List, Some, Result, Ok, Err}
-use Rattle.sat_tool.specs.declared.outcome.Outcome.{Outcome}
-use Rattle.sat_tool.specs.declared.outcome.Outcome.TheVariants.{NoMemory}
+use Rattle.command_outcomes.specs.declared.outcome.Outcome.{Outcome}
+use Rattle.command_outcomes.specs.declared.outcome.Outcome.TheVariants.{NoMemory}
 use Rattle.sat_tool.specs.Build.{IsUnfit, IsDone}
 use Rattle.sat_tool.specs.Files.{Output}
 use Rattle.sat_tool.specs.Run.{Writes}

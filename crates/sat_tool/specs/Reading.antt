@@ -1,17 +1,21 @@
 -- The steps of a command that reads several files.
-use Rattle.std.specs.Prelude.{◌≡◌, ℕ, ◌+◌, ◌⊎◌, List, take}
-use Rattle.sat_tool.specs.declared.outcome.Outcome.{Outcome}
-use Rattle.sat_tool.specs.Command.{Command}
-use Rattle.sat_tool.specs.Commands.{IsUnfit}
-use Rattle.sat_tool.specs.Files.{Input}
-use Rattle.sat_tool.specs.Run.{Course}
+use Rattle.std.specs.Prelude.{◌≡◌, ℕ, ◌+◌, ◌⊎◌, List, Option, take}
+use Rattle.command_outcomes.specs.declared.outcome.Outcome.{Outcome}
+use Rattle.store_io.specs.Outside.{Files}
+use Rattle.sat_tool.specs.Run.{IsTextOf, Unread}
 use Rattle.sat_tool.specs.World.{StoreView}
 
 -- what was read of a file that may have at most so many bytes: all of it, or its front
 abbrev pub IsFront : ℕ → List ℕ → List ℕ → Type 0
 IsFront most bytes file = (bytes ≡ file) ⊎ (bytes ≡ take (most + 1) file)
 
--- the last of these texts is judged: it is refused, or the command goes on
-pub data Judged (command : Command) (inputs : List Input) (texts : List (List ℕ)) (old new : StoreView) (outcome : Outcome) : Type 0 where
-  refused : IsUnfit command texts outcome → new.files ≡ old.files → Judged command inputs texts old new outcome
-  goes_on : Course command inputs texts old new outcome → Judged command inputs texts old new outcome
+-- the file of this name holds a text that is such
+pub record Holds (P : List ℕ → Type 0) (files : Option Files) (name : List ℕ) : Type 0 where
+  pub text : List ℕ
+  pub of : IsTextOf files name text
+  pub is : P text
+
+-- the file of this name is not read, or its text is refused with such an outcome
+pub data Lacks (IsUnfit : List ℕ → Outcome → Type 0) (name : List ℕ) (old new : StoreView) (outcome : Outcome) : Type 0 where
+  unread : Unread name old new outcome → Lacks IsUnfit name old new outcome
+  refused : (text : List ℕ) → IsTextOf old.files name text → IsUnfit text outcome → Lacks IsUnfit name old new outcome

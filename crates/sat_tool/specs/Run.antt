@@ -1,15 +1,15 @@
 -- What a run of the program does, whatever its command: it reads the files that the command names, in order, and
--- judges each as it comes; it does its job; it makes at most one write, and then at most one put.
+-- judges each as it comes, before it reads the next; it does its job; it makes at most one write, and then at most one put.
 use Rattle.std.specs.Prelude.{◌≡◌, ℕ, ◌≤◌, List, [], ◌∷◌, ◌++◌, Option, Some, None}
 use Rattle.std.specs.FinMap as map
 use Rattle.store_io.specs.Outside.{Files, Rose, IsMissing, WritesPart, files_with, text_with, GrowsByPart}
-use Rattle.sat_tool.specs.declared.outcome.Outcome.{Outcome}
-use Rattle.sat_tool.specs.declared.outcome.Outcome.TheVariants.{NoCommand, NoMemory, Unusable}
+use Rattle.command_outcomes.specs.declared.outcome.Outcome.{Outcome}
+use Rattle.command_outcomes.specs.declared.outcome.Outcome.TheVariants.{NoCommand, NoMemory, Unusable}
 use Rattle.sat_tool.specs.Command.{Command, IsCommand, IsNoCommand}
-use Rattle.sat_tool.specs.Commands.{inputs_of, IsUnfit, IsDone}
+use Rattle.sat_tool.specs.Commands.{inputs_of, IsUnfit, IsFit, IsDone}
 use Rattle.sat_tool.specs.Files.{Input, Output}
-use Rattle.sat_tool.specs.Lines.{missing_line, cannot_read_line, cannot_write_line}
-use Rattle.sat_tool.specs.Statuses.{status_of, text_of, sink_failed}
+use Rattle.command_outcomes.specs.Lines.{missing_line, cannot_read_line, cannot_write_line}
+use Rattle.command_outcomes.specs.Statuses.{status_of, text_of, sink_failed}
 use Rattle.sat_tool.specs.World.{StoreView, SinkView, World}
 
 -- The text is what the file of this name holds. Of a store that does not tell its files nothing is claimed.
@@ -41,9 +41,9 @@ pub data Course (command : Command) : List Input → List (List ℕ) → StoreVi
   refuses : {input : Input} {inputs : List Input} {texts : List (List ℕ)} {old new : StoreView} {outcome : Outcome} (text : List ℕ)
       → IsTextOf old.files input.name text → IsUnfit command (texts ++ text ∷ []) outcome → new.files ≡ old.files
       → Course command (input ∷ inputs) texts old new outcome
-  -- it is read, and then the others
+  -- it is read, and is what is asked for, and then the others are
   reads : {input : Input} {inputs : List Input} {texts : List (List ℕ)} {old mid new : StoreView} {outcome : Outcome} (text : List ℕ)
-      → IsTextOf old.files input.name text → mid.files ≡ old.files → old.faults ≤ mid.faults
+      → IsTextOf old.files input.name text → IsFit command (texts ++ text ∷ []) → mid.files ≡ old.files → old.faults ≤ mid.faults
       → Course command inputs (texts ++ text ∷ []) mid new outcome → Course command (input ∷ inputs) texts old new outcome
   -- all are read, and memory wants for the job
   wants_memory : {texts : List (List ℕ)} {old new : StoreView} → new.files ≡ old.files → Course command [] texts old new NoMemory

@@ -1,8 +1,9 @@
 -- What the parsed words stand for.
 use Rattle.sat_tool.specs.declared.words.Command.{Command}
-use Rattle.sat_tool.specs.declared.words.Command.TheVariants.{Build, RunImage}
+use Rattle.sat_tool.specs.declared.words.Command.TheVariants.{Build, RunImage, RunSource}
 use Rattle.sat_tool.specs.Command as asked
 
 abbrev pub asked_by : Command → asked.Command
 asked_by (Build source image) = asked.Build source.now image.now
 asked_by (RunImage files steps) = asked.RunImage files.program.now files.input.now files.output.now steps
+asked_by (RunSource files turns) = asked.RunSource files.program.now files.input.now files.output.now turns

@@ -9,7 +9,7 @@ ghost use Rattle.sat_tool.specs.Run.{Course};
 ghost use Rattle.sat_tool.specs.World.{store_view};
 
 use crate::files::{read_file, write_file};
-use crate::outcome::{Outcome, refusal_line, sites};
+use command_outcomes::{Outcome, refusal_line, sites};
 use image_format::write_bytes;
 use sat_base::limits::SOURCE_BYTES;
 use sat_compile::{Built, CompileRefusal, compile};

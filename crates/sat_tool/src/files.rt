@@ -6,7 +6,7 @@ ghost use Rattle.sat_tool.specs.Outcomes.{InAnyCase};
 ghost use Rattle.sat_tool.specs.Run.{Unread, Writes};
 ghost use Rattle.sat_tool.specs.World.{store_view};
 
-use crate::outcome::{Outcome, cannot_read, cannot_write, missing};
+use command_outcomes::{Outcome, cannot_read, cannot_write, missing};
 use std::alloc::Global;
 use store_io::{ReadFail, Store, WriteFail};
 

@@ -4,10 +4,11 @@
 mod build;
 mod files;
 pub mod gathered;
+mod input;
 mod numbers;
-mod outcome;
 mod run_image;
-mod run_lines;
+mod run_result;
+mod run_source;
 pub mod top_call;
 mod words;
 

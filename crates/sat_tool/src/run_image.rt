@@ -1,26 +1,30 @@
 // `run-image IMG IN OUT STEPS`: an image on the machine.
 
-ghost use Rattle.std.specs.Prelude.{◌≡◌, ◌≤◌, ◌⊎◌, ℕ, List, [], ◌∷◌, IfOk, IfErr};
+ghost use Rattle.std.specs.Prelude.{◌≡◌, ◌≤◌, ◌⊎◌, ℤ, List, [], IfOk, IfErr};
 ghost use Rattle.image_format.specs.Reading.{IsFileOf};
-ghost use Rattle.sat_base.specs.declared.limits.TheConstants.{SAMPLE_BYTES};
-ghost use Rattle.image_runs.specs.declared.limits.TheConstants.{IMAGE_BYTES};
+ghost use Rattle.image_format.specs.Runs.{machine_observed};
+ghost use Rattle.image_runs.specs.Observed.{observation_with};
+ghost use Rattle.command_outcomes.specs.Outcomes.{outcome_of};
+ghost use Rattle.command_outcomes.specs.RunLines.{image_stop_line};
 ghost use Rattle.sat_tool.specs.Command.{RunImage};
 ghost use Rattle.sat_tool.specs.Commands.{inputs_of};
 ghost use Rattle.sat_tool.specs.Outcomes.{InAnyCase};
-ghost use Rattle.sat_tool.specs.Reading.{IsFront, Judged};
+ghost use Rattle.sat_tool.specs.Reading.{Holds, Lacks};
 ghost use Rattle.sat_tool.specs.Run.{Course};
-ghost use Rattle.sat_tool.specs.RunImage.{IsNoImage, IsNoInput, IsInputOf};
+ghost use Rattle.sat_tool.specs.RunImage.{IsNoImage};
+ghost use Rattle.sat_tool.specs.RunResult.{IsResultOf};
 ghost use Rattle.sat_tool.specs.World.{store_view};
 
-use crate::files::{read_file, write_file};
-use crate::outcome::Outcome;
-use crate::run_lines::{image_refused, told, unfit};
+use crate::files::read_file;
+use crate::input::input_file;
+use crate::run_result::{RunResult, write_result};
 use crate::words::RunFiles;
+use command_outcomes::{Outcome, ended, faulted, image_refused, stopped_image};
 use image_format::{Image, ImageRefusal, read_bytes};
 use image_runs::{IMAGE_BYTES, run_image as run_of};
-use sample_files::{SampleRefusal, bytes_of, samples};
-use sat_base::limits::SAMPLE_BYTES;
-use std::alloc::Global;
+use rv_emulator::Pause;
+use sat_base::Memory;
+use std::alloc::{AllocError, Global};
 use store_io::Store;
 
 /// Runs the image in a file on the samples in another, for at most so many instructions, and writes its output.
@@ -35,87 +39,22 @@ pub fn run_image<S: Store>(
         (store_view (S.files store.old) (S.faults store.old)) (store_view (S.files store.new) (S.faults store.new))) }
     ensures later { S.faults store.old ≤ S.faults store.new }
 {
-    let bytes = read_file(alloc, store, files.program, IMAGE_BYTES)?;
-    run_bytes(alloc, store, &bytes, files, steps)
+    let image = image_file(alloc, store, files.program)?;
+    let input = input_file(alloc, store, files.input)?;
+    let ran = run(alloc, &image, &input, steps)?;
+    write_result(alloc, store, files.output, ran)
 }
 
-// Goes on once the image's file is read.
-fn run_bytes<S: Store>(
-    alloc: Global,
-    store: &mut S,
-    bytes: &[u8],
-    files: RunFiles<'_>,
-    steps: u64,
-) -> Result<Outcome, Outcome>
-    ensures judged { (file : List ℕ) → IsFront IMAGE_BYTES bytes.now file → InAnyCase result
-        (Judged (RunImage files.entry.program.now files.entry.input.now files.entry.output.now steps)
-        (record { name = files.entry.input.now; most = SAMPLE_BYTES } ∷ []) (file ∷ [])
+// The image in a file; else the run is over, with this outcome.
+fn image_file<S: Store>(alloc: Global, store: &mut S, name: &str) -> Result<Image, Outcome>
+    ensures held { IfOk result (λ image. Holds (IsFileOf image) (S.files store.old) name.now) }
+    ensures lacking { IfErr result (Lacks IsNoImage name.now
         (store_view (S.files store.old) (S.faults store.old)) (store_view (S.files store.new) (S.faults store.new))) }
+    ensures same { S.files store.new ≡ S.files store.old }
     ensures later { S.faults store.old ≤ S.faults store.new }
 {
-    let image = image_in(alloc, bytes)?;
-    run_loaded(alloc, store, &image, files, steps)
-}
-
-// Goes on with the image.
-fn run_loaded<S: Store>(
-    alloc: Global,
-    store: &mut S,
-    image: &Image,
-    files: RunFiles<'_>,
-    steps: u64,
-) -> Result<Outcome, Outcome>
-    ensures course { (file : List ℕ) → IsFileOf image.now file → InAnyCase result
-        (Course (RunImage files.entry.program.now files.entry.input.now files.entry.output.now steps)
-        (record { name = files.entry.input.now; most = SAMPLE_BYTES } ∷ []) (file ∷ [])
-        (store_view (S.files store.old) (S.faults store.old)) (store_view (S.files store.new) (S.faults store.new))) }
-    ensures later { S.faults store.old ≤ S.faults store.new }
-{
-    let bytes = read_file(alloc, store, files.input, SAMPLE_BYTES)?;
-    run_on_bytes(alloc, store, image, &bytes, Rest { files, steps })
-}
-
-// What a run still needs once its image is there.
-#[derive(Clone, Copy)]
-struct Rest<'a> {
-    files: RunFiles<'a>,
-    steps: u64,
-}
-
-// Goes on once the input's file is read.
-fn run_on_bytes<S: Store>(
-    alloc: Global,
-    store: &mut S,
-    image: &Image,
-    bytes: &[u8],
-    rest: Rest<'_>,
-) -> Result<Outcome, Outcome>
-    ensures judged { (first file : List ℕ) → IsFileOf image.now first → IsFront SAMPLE_BYTES bytes.now file → InAnyCase result
-        (Judged (RunImage rest.entry.files.program.now rest.entry.files.input.now rest.entry.files.output.now rest.entry.steps) [] (first ∷ file ∷ [])
-        (store_view (S.files store.old) (S.faults store.old)) (store_view (S.files store.new) (S.faults store.new))) }
-    ensures later { S.faults store.old ≤ S.faults store.new }
-{
-    let input = input_in(alloc, bytes)?;
-    run_on(alloc, store, image, &input, rest)
-}
-
-// Runs the image on these samples, and writes what it wrote. All that wants memory comes before the write.
-fn run_on<S: Store>(
-    alloc: Global,
-    store: &mut S,
-    image: &Image,
-    input: &[i16],
-    rest: Rest<'_>,
-) -> Result<Outcome, Outcome>
-    ensures course { (first file : List ℕ) → IsFileOf image.now first → IsInputOf input.now file → InAnyCase result
-        (Course (RunImage rest.entry.files.program.now rest.entry.files.input.now rest.entry.files.output.now rest.entry.steps) [] (first ∷ file ∷ [])
-        (store_view (S.files store.old) (S.faults store.old)) (store_view (S.files store.new) (S.faults store.new))) }
-    ensures later { S.faults store.old ≤ S.faults store.new }
-{
-    let run = run_of(alloc, image, input, rest.steps)?;
-    let outcome = told(alloc, image, run.pause)?;
-    let bytes = bytes_of(alloc, &run.output)?;
-    write_file(alloc, store, rest.files.output, &bytes, outcome)
+    let bytes = read_file(alloc, store, name, IMAGE_BYTES)?;
+    image_in(alloc, &bytes)
 }
 
 // The image in the bytes of its file; else the run is over, with this outcome.
@@ -130,15 +69,27 @@ fn image_in(alloc: Global, bytes: &[u8]) -> Result<Image, Outcome>
     }
 }
 
-// The samples in the bytes of their file; else the run is over, with this outcome.
-fn input_in(alloc: Global, bytes: &[u8]) -> Result<Vec<i16>, Outcome>
-    ensures samples { IfOk result (λ samples. IsInputOf samples.items bytes.now) }
-    ensures stops { IfErr result (λ outcome. IsNoInput bytes.now outcome ⊎ (outcome ≡ Outcome.NoMemory)) }
+// What comes of the image on these samples, after at most so many instructions.
+fn run(alloc: Global, image: &Image, input: &[i16], steps: u64) -> Result<RunResult, Memory>
+    ensures { IfOk result (IsResultOf (image_stop_line image.now.sites) (machine_observed image.now input.now steps)) }
 {
-    match samples(alloc, bytes) {
-        Ok(input) => Ok(input),
-        Err(SampleRefusal::TooLong) => Err(unfit(alloc, "samples too long\n")?),
-        Err(SampleRefusal::OddLength) => Err(unfit(alloc, "samples odd\n")?),
-        Err(SampleRefusal::Memory) => Err(Outcome::NoMemory),
+    let emulated = run_of(alloc, image, input, steps)?;
+    let outcome = told(alloc, image, emulated.pause)?;
+    Ok(RunResult {
+        output: emulated.output,
+        outcome,
+    })
+}
+
+// What a run of an image comes to, by how it paused.
+fn told(alloc: Global, image: &Image, pause: Pause) -> Result<Outcome, AllocError>
+    ensures { IfOk result (λ outcome. (output : List ℤ) → outcome ≡ outcome_of (image_stop_line image.now.sites) (observation_with pause output)) }
+{
+    match pause {
+        Pause::Budget => Ok(Outcome::Going),
+        Pause::Wrote(_) => Ok(Outcome::Going),
+        Pause::Ended { overflow, count } => ended(alloc, overflow, count),
+        Pause::Stopped { site } => stopped_image(alloc, image.sites.as_slice(), site),
+        Pause::Fault { pc, kind } => faulted(alloc, pc, kind),
     }
 }

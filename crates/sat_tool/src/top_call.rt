@@ -2,7 +2,7 @@
 
 ghost use Rattle.std.specs.Prelude.{◌≤◌, [], map, string_bytes};
 ghost use Rattle.sat_tool.specs.Headline.{BuildsAccepted, RefusesOthers};
-ghost use Rattle.sat_tool.specs.RunHeadline.{RunsImages};
+ghost use Rattle.sat_tool.specs.RunHeadline.{RunsImages, RunsSources, RefusesToRunOthers};
 ghost use Rattle.sat_tool.specs.Outcomes.{InAnyCase};
 ghost use Rattle.sat_tool.specs.Run.{Course, Comes, Tells, IsRun};
 ghost use Rattle.sat_tool.specs.Commands.{inputs_of};
@@ -10,9 +10,10 @@ ghost use Rattle.sat_tool.specs.Words.{asked_by};
 ghost use Rattle.sat_tool.specs.World.{store_view, sink_view, world};
 
 use crate::build::build;
-use crate::outcome::Outcome;
 use crate::run_image::run_image;
+use crate::run_source::run_source;
 use crate::words::{Command, command_of};
+use command_outcomes::Outcome;
 use std::alloc::Global;
 use store_io::{PutFail, Sink, Store};
 
@@ -38,6 +39,14 @@ pub fn satc<S: Store, K: Sink>(alloc: Global, words: &[String], store: &mut S, o
 
     // And an image that can be read is run on samples that can be: output, status and line are those that are observed.
     ensures ran { RunsImages (map string_bytes words.now)
+        (world (S.files store.old) (S.faults store.old) (K.written out.old) (K.faults out.old))
+        (world (S.files store.new) (S.faults store.new) (K.written out.new) (K.faults out.new)) result }
+
+    // And so is a source, by what its text means; any other text is refused.
+    ensures ran_source { RunsSources (map string_bytes words.now)
+        (world (S.files store.old) (S.faults store.old) (K.written out.old) (K.faults out.old))
+        (world (S.files store.new) (S.faults store.new) (K.written out.new) (K.faults out.new)) result }
+    ensures not_run { RefusesToRunOthers (map string_bytes words.now)
         (world (S.files store.old) (S.faults store.old) (K.written out.old) (K.faults out.old))
         (world (S.files store.new) (S.faults store.new) (K.written out.new) (K.faults out.new)) result }
 {
@@ -69,6 +78,7 @@ fn serve<S: Store>(alloc: Global, store: &mut S, command: Command<'_>) -> Result
     match command {
         Command::Build { source, image } => build(alloc, store, source, image),
         Command::RunImage { files, steps } => run_image(alloc, store, files, steps),
+        Command::RunSource { files, turns } => run_source(alloc, store, files, turns),
     }
 }
 

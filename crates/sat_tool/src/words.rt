@@ -4,7 +4,7 @@ ghost use Rattle.std.specs.Prelude.{◌≡◌, ◌↔◌, ◌∷◌, [], map, st
 ghost use Rattle.sat_tool.specs.Command.{IsName, IsCommand, IsNoCommand};
 ghost use Rattle.sat_tool.specs.Words.{asked_by};
 
-use crate::numbers::step_count;
+use crate::numbers::{step_count, turn_count};
 
 /// What is asked for, with the names of the files.
 #[derive(Clone, Copy, Debug)]
@@ -13,6 +13,8 @@ pub enum Command<'a> {
     Build { source: &'a str, image: &'a str },
     /// Run the image for at most so many instructions.
     RunImage { files: RunFiles<'a>, steps: u64 },
+    /// Run the source, where each activation of a loop may begin so many turns.
+    RunSource { files: RunFiles<'a>, turns: u32 },
 }
 
 /// The files of a run: what is run, its input, and what it writes.
@@ -30,13 +32,13 @@ pub fn command_of(words: &[String]) -> Option<Command<'_>>
 {
     match words {
         [verb, source, image] => { build_asked(verb.as_str(), source.as_str(), image.as_str()) }
-        [verb, image, input, output, steps] => {
+        [verb, program, input, output, count] => {
             let files = RunFiles {
-                program: image.as_str(),
+                program: program.as_str(),
                 input: input.as_str(),
                 output: output.as_str(),
             };
-            run_asked(verb.as_str(), files, steps.as_str())
+            run_asked(verb.as_str(), files, count.as_str())
         }
         _ => None,
     }
@@ -55,19 +57,20 @@ fn build_asked<'a>(verb: &'a str, source: &'a str, image: &'a str) -> Option<Com
 }
 
 // What five words ask for.
-fn run_asked<'a>(verb: &'a str, files: RunFiles<'a>, steps: &'a str) -> Option<Command<'a>>
+fn run_asked<'a>(verb: &'a str, files: RunFiles<'a>, count: &'a str) -> Option<Command<'a>>
     ensures found { IfSome result (λ command. IsCommand
-        (verb.now ∷ files.entry.program.now ∷ files.entry.input.now ∷ files.entry.output.now ∷ steps.now ∷ []) (asked_by command)) }
+        (verb.now ∷ files.entry.program.now ∷ files.entry.input.now ∷ files.entry.output.now ∷ count.now ∷ []) (asked_by command)) }
     ensures none { IfNone result (IsNoCommand
-        (verb.now ∷ files.entry.program.now ∷ files.entry.input.now ∷ files.entry.output.now ∷ steps.now ∷ [])) }
+        (verb.now ∷ files.entry.program.now ∷ files.entry.input.now ∷ files.entry.output.now ∷ count.now ∷ [])) }
 {
-    if verb == "run-image"
-        && is_name(files.program)
-        && is_name(files.input)
-        && is_name(files.output)
-    {
-        let steps = step_count(steps)?;
+    if !is_name(files.program) || !is_name(files.input) || !is_name(files.output) {
+        None
+    } else if verb == "run-image" {
+        let steps = step_count(count)?;
         Some(Command::RunImage { files, steps })
+    } else if verb == "run-source" {
+        let turns = turn_count(count)?;
+        Some(Command::RunSource { files, turns })
     } else {
         None
     }

@@ -1,8 +1,8 @@
 use Rattle.std.proofs.Common.{List, ℕ, Option, Some, inr, refl, ap, ◌∙◌}
 use Rattle.std.proofs.lemmas.Result.{err_from_is_err_and}
-use Rattle.sat_tool.specs.declared.outcome.Outcome.TheVariants.{Done}
+use Rattle.command_outcomes.specs.declared.outcome.Outcome.TheVariants.{Done}
 use Rattle.sat_tool.specs.Files.{Output}
-use Rattle.sat_tool.specs.Lines.{sites_line}
+use Rattle.command_outcomes.specs.Lines.{sites_line}
 use Rattle.sat_tool.specs.Outcomes as outcomes
 use Rattle.sat_tool.proofs.Serving.{in_any_case}
 use Rattle.sat_tool.proofs.build.build_text.Goals as goal

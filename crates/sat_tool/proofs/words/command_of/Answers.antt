@@ -15,8 +15,8 @@ five f (u ∷ v ∷ w ∷ x ∷ y ∷ z ∷ xs) a b c d e low high i j k l m = a
 
 pub returns-in-len5-clause-none : goal.returns-in-len5-clause-none
 returns-in-len5-clause-none c =
-    let whole = five string_bytes c.args.words.now c.verb-item-then-words-lt6.result c.image-item-then-words-lt6.result c.input-item.result c.output-item.result c.steps-item.result
-    (omega arith) (omega arith) c.verb-item-then-words-lt6.is c.image-item-then-words-lt6.is c.input-item.is c.output-item.is c.steps-item.is in
+    let whole = five string_bytes c.args.words.now c.verb-item-then-words-lt6.result c.program-item.result c.input-item.result c.output-item.result c.count-item.result
+    (omega arith) (omega arith) c.verb-item-then-words-lt6.is c.program-item.is c.input-item.is c.output-item.is c.count-item.is in
     let a = c.as_str-in-len5.ensures.value in
     let b = c.as_str-in-len5-2.ensures.value in
     let d = c.as_str-in-len5-3.ensures.value in
