@@ -1,0 +1,88 @@
+-- Jumps and branches by distances in words, near and far.
+use Rattle.std.specs.Prelude.{◌≡◌, ◌≢◌, ℕ, ◌+◌, ◌≤◌, ℤ, pos, ◌+ℤ◌, ◌-ℤ◌, ◌*ℤ◌, Bool, true, false, not, int_lt, List, [], ◌∷◌, length}
+use Rattle.std.specs.Ordering.{int_eq}
+use Rattle.rv_encode.specs.declared.instruction.Instr.{Instr}
+use Rattle.rv_encode.specs.declared.instruction.Instr.TheVariants.{Auipc, Jal, Jalr, Beq, Bne, Blt, Bge}
+use Rattle.rv_encode.specs.State.{MachineState, Running, register}
+use Rattle.template_runs.specs.Machine.{StandHere, IsBefore}
+use Rattle.code_lines.specs.Pieces.{upper_of, lower_of}
+use Rattle.code_runs.specs.Doing.{LeadsLater}
+
+-- the bytes of so many words
+abbrev pub bytes_of : ℤ → ℤ
+bytes_of distance = pos 4 *ℤ distance
+
+-- A jump by so many words from its own first word. A near one reaches 2^18 words; a far one has its address in x5.
+abbrev pub jump_code : (near : Bool) → (distance : ℤ) → List Instr
+jump_code true distance = Jal 0 (bytes_of distance) ∷ []
+jump_code false distance = Auipc 5 (upper_of (bytes_of distance)) ∷ Jalr 0 5 (lower_of (bytes_of distance)) ∷ []
+
+-- ---- tests of two registers
+
+pub data Test : Type 0 where
+  Equal : Test
+  Unequal : Test
+  Less : Test
+  NotLess : Test
+
+abbrev pub passes : Test → ℤ → ℤ → Bool
+passes Equal a b = int_eq a b
+passes Unequal a b = not (int_eq a b)
+passes Less a b = int_lt a b
+passes NotLess a b = not (int_lt a b)
+
+abbrev pub opposite : Test → Test
+opposite Equal = Unequal
+opposite Unequal = Equal
+opposite Less = NotLess
+opposite NotLess = Less
+
+abbrev pub branch_by : Test → (rs1 rs2 : ℕ) → ℤ → Instr
+branch_by Equal rs1 rs2 imm = Beq rs1 rs2 imm
+branch_by Unequal rs1 rs2 imm = Bne rs1 rs2 imm
+branch_by Less rs1 rs2 imm = Blt rs1 rs2 imm
+branch_by NotLess rs1 rs2 imm = Bge rs1 rs2 imm
+
+-- how far a branch goes: by itself, over a near jump, or over a far one
+pub data Reach : Type 0 where
+  Short : Reach
+  Middle : Reach
+  Long : Reach
+
+abbrev over_jump : (near : Bool) → Test → (rs1 rs2 : ℕ) → (distance : ℤ) → List Instr
+over_jump near test rs1 rs2 distance =
+    branch_by (opposite test) rs1 rs2 (bytes_of (pos (1 + length (jump_code near distance)))) ∷ jump_code near (distance -ℤ pos 1)
+
+-- a jump by so many words from its own first word, where two registers pass a test
+abbrev pub branch_code : Reach → Test → (rs1 rs2 : ℕ) → (distance : ℤ) → List Instr
+branch_code Short test rs1 rs2 distance = branch_by test rs1 rs2 (bytes_of distance) ∷ []
+branch_code Middle test rs1 rs2 distance = over_jump true test rs1 rs2 distance
+branch_code Long test rs1 rs2 distance = over_jump false test rs1 rs2 distance
+
+-- ---- what they do
+
+-- the machine before the word of this number, where all registers but x5 are as before
+pub record IsThere (k : ℕ) (s t : MachineState) : Type 0 where
+  pub before : IsBefore k t
+  pub others : (n : ℕ) → n ≢ 5 → register t n ≡ register s n
+  pub memory : t.memory ≡ s.memory
+  pub input : t.input ≡ s.input
+  pub output : t.output ≡ s.output
+
+-- in at least so many instructions the machine comes to the word of this number
+abbrev pub ComesTo : (code : List ℕ) → (least k : ℕ) → MachineState → Type 0
+ComesTo code least k s = (t : MachineState) × LeadsLater code least (Running s) (Running t) × IsThere k s t
+
+abbrev pub JumpsAreDone : Type 0
+JumpsAreDone = (code : List ℕ) (k to : ℕ) (near : Bool) (distance : ℤ) (s : MachineState) → StandHere code k (jump_code near distance) → IsBefore k s
+    → pos to ≡ pos k +ℤ distance → to ≤ 16777216 → ComesTo code 1 to s
+
+-- by the test the machine comes to the one or the other word
+abbrev pub ComesBy : (passed : Bool) → (code : List ℕ) → (to next : ℕ) → MachineState → Type 0
+ComesBy true code to next s = ComesTo code 1 to s
+ComesBy false code to next s = ComesTo code 0 next s
+
+abbrev pub BranchesAreDone : Type 0
+BranchesAreDone = (code : List ℕ) (k to : ℕ) (reach : Reach) (test : Test) (rs1 rs2 : ℕ) (distance : ℤ) (s : MachineState)
+    → StandHere code k (branch_code reach test rs1 rs2 distance) → IsBefore k s → pos to ≡ pos k +ℤ distance → to ≤ 16777216
+    → ComesBy (passes test (register s rs1) (register s rs2)) code to (k + length (branch_code reach test rs1 rs2 distance)) s
