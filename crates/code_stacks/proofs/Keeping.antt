@@ -139,7 +139,7 @@ variable_at l memory n laid size is =
     let before = laid.before n is in
     record { whole = laid.whole n is; inside = omega (arith, size); small = omega (arith, size) }
 
-five_spare : (depth : ℕ) → IsSpare depth 5
+pub five_spare : (depth : ℕ) → IsSpare depth 5
 five_spare depth =
     record { based = λ e. cc; low = λ e. cc; high = λ e. cc; stack = λ place less low. work_apart (stack_register place) 5 (stack_work place) refl }
 
