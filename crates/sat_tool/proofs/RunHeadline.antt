@@ -36,7 +36,6 @@ use Rattle.command_outcomes.specs.Statuses.{status_of, text_of}
 use Rattle.command_words.specs.Command.{Command, RunImage, RunSource, IsCommand}
 use Rattle.sat_tool.specs.Commands.{inputs_of, IsUnfit, IsFit, IsDone}
 use Rattle.sat_tool.specs.Files.{Input, Output}
-use Rattle.sat_tool.specs.Headline.{IsHonest}
 use Rattle.sat_tool.specs.Run.{IsRun, Comes, Course, Unread, Writes, IsTextOf}
 use Rattle.sat_tool.specs.Run as run
 use Rattle.sat_tool.specs.RunHeadline.{AsksForRun, IsRunAs, RunsImages, RunsSources, AsksToRunSource, HasNoSource, RefusesToRunOthers}
