@@ -1,5 +1,5 @@
 -- Texts that are what a command asks for are not refused.
-use Rattle.std.proofs.Common.{◌≡◌, ℕ, ℤ, List, sym, ap, ◌∙◌, refl, arith}
+use Rattle.std.proofs.Common.{◌≡◌, ℕ, ℤ, List, sym, ap, ◌∙◌, arith}
 use Rattle.std.proofs.lemmas.Option.{none-some}
 use Rattle.image_format.specs.declared.image.Image.{Image}
 use Rattle.image_format.specs.Reading.{IsFileOf}

@@ -14,7 +14,7 @@ use Rattle.sat_compile.proofs.Accepted.{one_source, not_shown}
 use Rattle.store_io.specs.Outside.{Files, Rose, IsCalm, IsMissing, files_with, text_with}
 use Rattle.command_outcomes.specs.declared.outcome.Outcome.{Outcome}
 use Rattle.sat_tool.specs.Build.{IsUnfit, IsDone}
-use Rattle.sat_tool.specs.Command.{Build}
+use Rattle.command_words.specs.Command.{Build}
 use Rattle.sat_tool.specs.Commands.{inputs_of}
 use Rattle.sat_tool.specs.Commands as Commands
 use Rattle.sat_tool.specs.Files.{Output}
@@ -24,7 +24,7 @@ use Rattle.sat_tool.specs.Run.{IsRun, Comes, Course, Unread, Writes, Tells, IsTe
 use Rattle.sat_tool.specs.Run as run
 use Rattle.command_outcomes.specs.Statuses.{status_of, text_of}
 use Rattle.sat_tool.specs.World.{StoreView, SinkView, World}
-use Rattle.sat_tool.proofs.Asked.{one_command}
+use Rattle.command_words.proofs.Asked.{one_command}
 
 pub not_both : (before now : ℕ) → IsCalm before now → Rose before now → ⊥
 not_both before now calm rose = omega (arith, calm, rose)
@@ -112,6 +112,7 @@ module _ (files : Files) (name target text : List ℕ) (held : map.get files nam
 -- what words that ask to build come to
 came : (words : List (List ℕ)) (files : Files) (text target : List ℕ) (asks : AsksToBuild words files text target) (old new : StoreView) (outcome : Outcome)
     → old.files ≡ Some files → IsCalm old.faults new.faults → Comes words old new outcome → Built files new text target outcome
+came words files text target asks old new outcome told calm run.wants_memory = Wants refl
 came words files text target asks old new outcome told calm (run.nowhere none) = absurd (none (Build asks.name target) asks.asked)
 came words files text target asks old new outcome told calm (run.along command is course) =
     coursed files asks.name target text asks.held old new outcome told calm

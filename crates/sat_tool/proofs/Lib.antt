@@ -1,5 +1,3 @@
-pub mod Asked
-pub mod Digits
 pub mod Fit
 pub mod Fronts
 pub mod Headline

@@ -33,16 +33,15 @@ use Rattle.command_outcomes.specs.declared.outcome.Outcome.{Outcome}
 use Rattle.command_outcomes.specs.Outcomes.{outcome_of}
 use Rattle.command_outcomes.specs.RunLines.{image_stop_line, source_stop_line}
 use Rattle.command_outcomes.specs.Statuses.{status_of, text_of}
-use Rattle.sat_tool.specs.Command.{Command, RunImage, RunSource, IsCommand}
+use Rattle.command_words.specs.Command.{Command, RunImage, RunSource, IsCommand}
 use Rattle.sat_tool.specs.Commands.{inputs_of, IsUnfit, IsFit, IsDone}
 use Rattle.sat_tool.specs.Files.{Input, Output}
-use Rattle.sat_tool.specs.Headline.{IsHonest}
 use Rattle.sat_tool.specs.Run.{IsRun, Comes, Course, Unread, Writes, IsTextOf}
 use Rattle.sat_tool.specs.Run as run
 use Rattle.sat_tool.specs.RunHeadline.{AsksForRun, IsRunAs, RunsImages, RunsSources, AsksToRunSource, HasNoSource, RefusesToRunOthers}
 use Rattle.sat_tool.specs.RunResult.{IsWrittenAndTold}
 use Rattle.sat_tool.specs.World.{StoreView, World}
-use Rattle.sat_tool.proofs.Asked.{one_command}
+use Rattle.command_words.proofs.Asked.{one_command}
 use Rattle.sat_tool.proofs.Fit.{image_fits, input_fits}
 use Rattle.sat_tool.proofs.Headline.{not_both, IsTold, some_output, told, calm_since}
 
@@ -133,6 +132,7 @@ begun command first second files program old new outcome held is calm (run.reads
 came : (words : List (List ℕ)) (command : Command) (first second : Input) (files : Files) (program : List ℕ) (old new : StoreView) (outcome : Outcome)
     → IsCommand words command → inputs_of command ≡ first ∷ second ∷ [] → map.get files first.name ≡ Some program → old.files ≡ Some files
     → IsCalm old.faults new.faults → Comes words old new outcome → Begun command second files program new outcome
+came words command first second files program old new outcome asked reads held is calm run.wants_memory = Lost refl
 came words command first second files program old new outcome asked reads held is calm (run.nowhere none) = absurd (none command asked)
 came words command first second files program old new outcome asked reads held is calm (run.along other other_asked course) =
     begun command first second files program old new outcome held is calm

@@ -24,7 +24,7 @@ use Rattle.source_meaning.specs.Running as source
 use Rattle.sat_compile.specs.Accepted.{IsSource}
 use Rattle.command_outcomes.specs.declared.outcome.Outcome.{Outcome}
 use Rattle.command_outcomes.specs.declared.outcome.Outcome.TheVariants.{NoMemory}
-use Rattle.sat_tool.specs.Command.{Command}
+use Rattle.command_words.specs.Command.{Command}
 use Rattle.sat_tool.specs.Files.{Input, Output}
 use Rattle.sat_tool.specs.Reading.{IsFront, Holds, Lacks}
 use Rattle.sat_tool.specs.Reading as reading

@@ -4,7 +4,7 @@ use Rattle.sat_base.specs.declared.limits.TheConstants.{SOURCE_BYTES}
 use Rattle.store_io.specs.Outside.{Files, ReadsFile}
 use Rattle.command_outcomes.specs.declared.outcome.Outcome.{Outcome}
 use Rattle.sat_tool.specs.Build.{IsUnfit, IsDone}
-use Rattle.sat_tool.specs.Command.{Build}
+use Rattle.command_words.specs.Command.{Build}
 use Rattle.sat_tool.specs.Commands.{inputs_of}
 use Rattle.sat_tool.specs.Files.{Output}
 use Rattle.sat_tool.specs.Outcomes.{InAnyCase, BuildsText}

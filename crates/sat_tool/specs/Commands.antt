@@ -12,7 +12,7 @@ use Rattle.sat_tool.specs.Build as build
 use Rattle.sat_tool.specs.Input.{IsNoInput, IsInputOf}
 use Rattle.sat_tool.specs.RunImage.{IsNoImage, IsRunOfImage}
 use Rattle.sat_tool.specs.RunSource.{IsNotRun, IsRunOfSource}
-use Rattle.sat_tool.specs.Command.{Command, Build, RunImage, RunSource}
+use Rattle.command_words.specs.Command.{Command, Build, RunImage, RunSource}
 use Rattle.sat_tool.specs.Files.{Input, Output}
 
 -- the files that a command reads, in order

@@ -9,7 +9,7 @@ use Rattle.sat_compile.specs.Causes.{MayShow}
 use Rattle.sat_compile.specs.Promise.{Compiles}
 use Rattle.sat_compile.specs.Source.{Source}
 use Rattle.store_io.specs.Outside.{Files, IsCalm}
-use Rattle.sat_tool.specs.Command.{Build, IsCommand}
+use Rattle.command_words.specs.Command.{Build, IsCommand}
 use Rattle.command_outcomes.specs.Lines.{sites_line}
 use Rattle.sat_tool.specs.World.{World}
 

@@ -1,11 +1,9 @@
 pub mod Build
-pub mod Command
 pub mod Commands
 pub mod Files
 pub mod Gathered
 pub mod Headline
 pub mod Input
-pub mod Numbers
 pub mod Outcomes
 pub mod Reading
 pub mod Run
@@ -13,5 +11,4 @@ pub mod RunHeadline
 pub mod RunImage
 pub mod RunResult
 pub mod RunSource
-pub mod Words
 pub mod World

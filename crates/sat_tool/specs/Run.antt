@@ -5,7 +5,7 @@ use Rattle.std.specs.FinMap as map
 use Rattle.store_io.specs.Outside.{Files, Rose, IsMissing, WritesPart, files_with, text_with, GrowsByPart}
 use Rattle.command_outcomes.specs.declared.outcome.Outcome.{Outcome}
 use Rattle.command_outcomes.specs.declared.outcome.Outcome.TheVariants.{NoCommand, NoMemory, Unusable}
-use Rattle.sat_tool.specs.Command.{Command, IsCommand, IsNoCommand}
+use Rattle.command_words.specs.Command.{Command, IsCommand, IsNoCommand}
 use Rattle.sat_tool.specs.Commands.{inputs_of, IsUnfit, IsFit, IsDone}
 use Rattle.sat_tool.specs.Files.{Input, Output}
 use Rattle.command_outcomes.specs.Lines.{missing_line, cannot_read_line, cannot_write_line}
@@ -54,8 +54,9 @@ pub data Course (command : Command) : List Input → List (List ℕ) → StoreVi
   writes : {texts : List (List ℕ)} {old new : StoreView} {output : Output} {done outcome : Outcome}
       → IsDone command texts (Some output) done → Writes output done old new outcome → Course command [] texts old new outcome
 
--- Words that are no command leave the store alone; a command takes its course.
+-- Words that are no command leave the store alone, and so does want of memory for reading them; a command takes its course.
 pub data Comes (words : List (List ℕ)) : StoreView → StoreView → Outcome → Type 0 where
+  wants_memory : {store : StoreView} → Comes words store store NoMemory
   nowhere : {store : StoreView} → IsNoCommand words → Comes words store store NoCommand
   along : {old new : StoreView} {outcome : Outcome} (command : Command) → IsCommand words command
       → Course command (inputs_of command) [] old new outcome → Comes words old new outcome

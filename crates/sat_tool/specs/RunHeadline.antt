@@ -20,7 +20,7 @@ use Rattle.store_io.specs.Outside.{Files}
 use Rattle.command_outcomes.specs.Outcomes.{outcome_of}
 use Rattle.command_outcomes.specs.RunLines.{image_stop_line, source_stop_line}
 use Rattle.command_outcomes.specs.Statuses.{status_of, text_of}
-use Rattle.sat_tool.specs.Command.{Command, RunImage, RunSource, IsCommand}
+use Rattle.command_words.specs.Command.{Command, RunImage, RunSource, IsCommand}
 use Rattle.sat_tool.specs.Headline.{IsHonest}
 use Rattle.sat_tool.specs.World.{World}
 

@@ -2,7 +2,7 @@
 
 ghost use Rattle.std.specs.Prelude.{◌≡◌, ◌≤◌, [], IfOk, IfErr};
 ghost use Rattle.sat_compile.specs.Accepted.{IsImageOf};
-ghost use Rattle.sat_tool.specs.Command.{Build};
+ghost use Rattle.command_words.specs.Command.{Build};
 ghost use Rattle.sat_tool.specs.Commands.{inputs_of};
 ghost use Rattle.sat_tool.specs.Outcomes.{InAnyCase, IsNotCompiled, BuildsText};
 ghost use Rattle.sat_tool.specs.Run.{Course};

@@ -5,12 +5,10 @@ mod build;
 mod files;
 pub mod gathered;
 mod input;
-mod numbers;
 mod run_image;
 mod run_result;
 mod run_source;
 pub mod top_call;
-mod words;
 
 pub use gathered::{NoWords, gather, start};
 pub use top_call::satc;

@@ -6,14 +6,15 @@ ghost use Rattle.sat_tool.specs.RunHeadline.{RunsImages, RunsSources, RefusesToR
 ghost use Rattle.sat_tool.specs.Outcomes.{InAnyCase};
 ghost use Rattle.sat_tool.specs.Run.{Course, Comes, Tells, IsRun};
 ghost use Rattle.sat_tool.specs.Commands.{inputs_of};
-ghost use Rattle.sat_tool.specs.Words.{asked_by};
+ghost use Rattle.command_words.specs.Words.{asked_by};
 ghost use Rattle.sat_tool.specs.World.{store_view, sink_view, world};
 
 use crate::build::build;
 use crate::run_image::run_image;
 use crate::run_source::run_source;
-use crate::words::{Command, command_of};
 use command_outcomes::Outcome;
+use command_words::{Command, command_of};
+use sat_base::Memory;
 use std::alloc::Global;
 use store_io::{PutFail, Sink, Store};
 
@@ -60,8 +61,10 @@ fn outcome_of<S: Store>(alloc: Global, words: &[String], store: &mut S) -> Outco
         (store_view (S.files store.old) (S.faults store.old)) (store_view (S.files store.new) (S.faults store.new)) result }
     ensures later { S.faults store.old ≤ S.faults store.new }
 {
-    let Some(command) = command_of(words) else {
-        return Outcome::NoCommand;
+    let command = match command_of(alloc, words) {
+        Ok(Some(command)) => command,
+        Ok(None) => return Outcome::NoCommand,
+        Err(Memory) => return Outcome::NoMemory,
     };
     match serve(alloc, store, command) {
         Ok(outcome) => outcome,

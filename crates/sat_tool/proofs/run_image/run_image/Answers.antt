@@ -6,7 +6,7 @@ use Rattle.image_format.specs.Runs.{machine_observed}
 use Rattle.image_runs.specs.declared.limits.TheConstants.{IMAGE_BYTES}
 use Rattle.command_outcomes.specs.RunLines.{image_stop_line}
 use Rattle.sat_tool.specs.RunImage.{IsNoImage}
-use Rattle.sat_tool.specs.Command.{RunImage}
+use Rattle.command_words.specs.Command.{RunImage}
 use Rattle.sat_tool.specs.Input.{IsNoInput}
 use Rattle.sat_tool.specs.Run as run
 use Rattle.sat_tool.specs.RunResult.{IsResultOf}

@@ -5,7 +5,7 @@ use Rattle.typed_meaning.specs.Observed.{observed}
 use Rattle.sat_compile.specs.Accepted.{IsSource}
 use Rattle.command_outcomes.specs.RunLines.{source_stop_line}
 use Rattle.sat_tool.specs.RunSource.{IsNotRun}
-use Rattle.sat_tool.specs.Command.{RunSource}
+use Rattle.command_words.specs.Command.{RunSource}
 use Rattle.sat_tool.specs.Input.{IsNoInput}
 use Rattle.sat_tool.specs.Run as run
 use Rattle.sat_tool.specs.RunResult.{IsResultOf}

@@ -2,9 +2,9 @@ use Rattle.std.proofs.Common.{◌≡◌, ◌≤◌, ◌+◌, ◌-◌, ◌*◌, [
 use Rattle.std.proofs.lemmas.Bool.Decides.{nat_tests}
 use Rattle.std.proofs.lemmas.List.{take_more, take_all, nil_from_length, length-drop}
 use Rattle.std.proofs.lemmas.List.Elements.{All-push, All-get_or}
-use Rattle.sat_tool.specs.Numbers.{IsDigit, number_in}
-use Rattle.sat_tool.proofs.Digits.{number_then, next_digit, not_less}
-use Rattle.sat_tool.proofs.numbers.spelled.Goals as goal
+use Rattle.command_words.specs.Numbers.{IsDigit, number_in}
+use Rattle.command_words.proofs.Digits.{number_then, next_digit, not_less}
+use Rattle.command_words.proofs.numbers.spelled.Goals as goal
 
 pub loop-digit-preserved : goal.loop-digit-preserved
 loop-digit-preserved c =

@@ -1,7 +1,7 @@
 -- Numbers by their decimal digits.
 use Rattle.std.proofs.Common.{◌≡◌, ℕ, suc, ◌+◌, ◌-◌, ◌*◌, ◌^◌, ◌<◌, ◌≤◌, List, ◌∷◌, drop, get_or, length, sym, ap, ◌∙◌, arith, drop-cons, mul_assoc, add-mul}
 use Rattle.std.proofs.Math.Nat.{pow-succ', one-le-pow, le-mul_of_pos_right}
-use Rattle.sat_tool.specs.Numbers.{number_in}
+use Rattle.command_words.specs.Numbers.{number_in}
 
 -- a number, and then the digits of this list
 abbrev pub number_then : ℕ → List ℕ → ℕ

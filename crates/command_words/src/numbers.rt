@@ -1,8 +1,8 @@
 // The numbers among the words.
 
 ghost use Rattle.std.specs.Prelude.{◌≡◌, ◌↔◌, ◌+◌, ◌-◌, ◌*◌, ◌^◌, ◌≤◌, ℕ, IsTrue, IfSome, IfNone};
-ghost use Rattle.sat_tool.specs.Command.{IsStepCount, IsTurnCount};
-ghost use Rattle.sat_tool.specs.Numbers.{IsDigit, IsNumber};
+ghost use Rattle.command_words.specs.Command.{IsStepCount, IsTurnCount};
+ghost use Rattle.command_words.specs.Numbers.{IsDigit, IsNumber};
 
 /// The most digits of a number of instructions.
 const STEP_DIGITS: usize = 20;

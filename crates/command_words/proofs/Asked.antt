@@ -1,7 +1,7 @@
 -- Words ask for one thing at most.
-use Rattle.std.proofs.Common.{◌≡◌, ℕ, List, [], ◌∷◌, length, codes, sym, ap, ◌∙◌, arith}
-use Rattle.sat_tool.specs.Command.{Command, Build, RunImage, RunSource, IsCommand}
-use Rattle.sat_tool.specs.Numbers.{number_in}
+use Rattle.std.proofs.Common.{◌≡◌, ℕ, List, length, codes, sym, ap, ◌∙◌, arith}
+use Rattle.command_words.specs.Command.{Command, Build, RunImage, RunSource, IsCommand}
+use Rattle.command_words.specs.Numbers.{number_in}
 
 -- the two verbs of runs differ
 apart : codes "run-image" ≡ codes "run-source" → ⊥

@@ -1,7 +1,7 @@
 -- What the parsed words stand for.
-use Rattle.sat_tool.specs.declared.words.Command.{Command}
-use Rattle.sat_tool.specs.declared.words.Command.TheVariants.{Build, RunImage, RunSource}
-use Rattle.sat_tool.specs.Command as asked
+use Rattle.command_words.specs.declared.words.Command.{Command}
+use Rattle.command_words.specs.declared.words.Command.TheVariants.{Build, RunImage, RunSource}
+use Rattle.command_words.specs.Command as asked
 
 abbrev pub asked_by : Command → asked.Command
 asked_by (Build source image) = asked.Build source.now image.now

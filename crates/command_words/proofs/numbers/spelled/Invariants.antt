@@ -1,6 +1,6 @@
 use Rattle.std.proofs.Common.{◌≡◌, ◌≤◌, ◌+◌, ◌*◌, ◌^◌, All, take, drop, length}
-use Rattle.sat_tool.specs.Numbers.{IsDigit, number_in}
-use Rattle.sat_tool.proofs.numbers.spelled.Given as goal
+use Rattle.command_words.specs.Numbers.{IsDigit, number_in}
+use Rattle.command_words.proofs.numbers.spelled.Given as goal
 
 abbrev pub invariant-loop-digit : goal.invariant-loop-digit
 invariant-loop-digit l = record {

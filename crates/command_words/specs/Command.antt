@@ -1,6 +1,6 @@
 -- The words of the command line.
 use Rattle.std.specs.Prelude.{◌≡◌, ◌≢◌, ℕ, List, [], ◌∷◌, codes}
-use Rattle.sat_tool.specs.Numbers.{IsNumber}
+use Rattle.command_words.specs.Numbers.{IsNumber}
 
 -- what is asked for, with the names of the files
 pub data Command : Type 0 where
