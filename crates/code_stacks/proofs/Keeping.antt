@@ -45,7 +45,7 @@ keeps_both l depth m t u one next = record {
 
 -- ---- what holds of the source goes on to hold
 
-held_kept : (objects : List Object) (l : Layout) (kept : Kept) (memory after : List ℕ) (n : ℕ) → word_in after (l.slot n) ≡ word_in memory (l.slot n)
+pub held_kept : (objects : List Object) (l : Layout) (kept : Kept) (memory after : List ℕ) (n : ℕ) → word_in after (l.slot n) ≡ word_in memory (l.slot n)
     → IsHeld objects l kept memory n → IsHeld objects l kept after n
 held_kept objects l kept memory after n same held =
     record { numbers = held.numbers ∙ ap (λ x. x ∷ []) (sym same); fits = subst (FitsWidth (shape_of objects n).width) (sym same) held.fits }

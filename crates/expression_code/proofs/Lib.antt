@@ -1,0 +1,11 @@
+pub mod Numbers
+pub mod Computing
+pub mod Sites
+pub mod Operators
+pub mod Values
+pub mod Placing
+pub mod Leaves
+pub mod Pairs
+pub mod Calls
+pub mod Arithmetic
+pub mod Expressions

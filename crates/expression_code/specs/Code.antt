@@ -1,0 +1,167 @@
+-- The code of expressions over scalars, without conditions: each leaves its value on the stack.
+use Rattle.std.specs.Prelude.{ℕ, zero, suc, ◌+◌, ℤ, pos, negsuc, int_le, Bool, true, false, ◌&&◌, List, [], ◌∷◌, ◌++◌}
+use Rattle.sat_base.specs.declared.width.Width.{Width}
+use Rattle.sat_base.specs.declared.width.Width.TheVariants.{W16, W32}
+use Rattle.c_tree.specs.declared.expression.BinaryMark.{BinaryMark}
+use Rattle.c_tree.specs.declared.expression.BinaryMark.TheVariants as binary
+use Rattle.operator_meaning.specs.declared.object.Object.{Object}
+use Rattle.operator_meaning.specs.declared.site.Form.{Form}
+use Rattle.operator_meaning.specs.declared.site.Form.TheVariants.{Plain, Flag}
+use Rattle.operator_meaning.specs.declared.site.Guard.TheVariants.{Kept}
+use Rattle.operator_meaning.specs.declared.site.SiteKind.{SiteKind}
+use Rattle.operator_meaning.specs.declared.site.SiteKind.TheVariants as kind
+use Rattle.operator_meaning.specs.Table.{row_of, arity_of}
+use Rattle.source_runs.specs.Shapes.{shape_of}
+use Rattle.rv_encode.specs.declared.instruction.Instr.{Instr}
+use Rattle.rv_encode.specs.declared.instruction.Instr.TheVariants.{Addi, Sltiu, Xori, Slli, Srai, Slt, Sltu, Xor, Or, And, Sub}
+use Rattle.template_runs.specs.declared.registers.Registers.{Registers}
+use Rattle.operator_lowering.specs.Words.{template_words}
+use Rattle.ir_arena.specs.Tree.{IrTree, IrTarget, IrTrees, Constant, Read, Operate, Convert, Not, Invert, Binary, ReadFlag, Variable, end, more}
+use Rattle.code_lines.specs.Pieces.{number_code}
+use Rattle.code_memory.specs.Memory.{load_code}
+use Rattle.code_stacks.specs.Places.{Layout, stack_register}
+use Rattle.code_stacks.specs.Operands.{operand_register, fetches, finish_code}
+
+-- ---- numbers of 16 bits by their form
+
+abbrev pub has_sixteen : ℤ → Bool
+has_sixteen value = int_le (negsuc 32767) value && int_le value (pos 32767)
+
+abbrev pub is_sixteen : Width → Bool
+is_sixteen W16 = true
+is_sixteen W32 = false
+
+abbrev pub gives_sixteen : SiteKind → Bool
+gives_sixteen (kind.Call op) = is_sixteen (row_of op).gives
+gives_sixteen other = false
+
+abbrev pub read_sixteen : List Object → IrTarget → Bool
+read_sixteen objects (Variable object) = is_sixteen (shape_of objects object).width
+read_sixteen objects target = false
+
+-- the form of the tree shows that its value has 16 bits
+abbrev pub fits_sixteen : List Object → IrTree → Bool
+fits_sixteen objects (Constant value) = has_sixteen value
+fits_sixteen objects (Read target) = read_sixteen objects target
+fits_sixteen objects (Operate site kind operands weight) = gives_sixteen kind
+fits_sixteen objects (Convert cast width part) = is_sixteen width
+fits_sixteen objects tree = false
+
+-- ---- sites
+
+-- an operator sets Overflow; the other kinds have no clip
+abbrev pub form_of : SiteKind → Form
+form_of (kind.Call op) = Flag
+form_of other = Plain
+
+-- the registers of a site with so many operands on top of a stack of this depth
+abbrev pub site_registers : (depth count : ℕ) → Registers
+site_registers depth zero = record { result = stack_register depth; first = stack_register depth; second = stack_register depth; third = stack_register depth }
+site_registers depth (suc zero) = record { result = stack_register depth; first = operand_register depth 0; second = stack_register depth; third = stack_register depth }
+site_registers depth (suc (suc zero)) = record { result = stack_register depth; first = operand_register depth 0; second = operand_register depth 1; third = stack_register depth }
+site_registers depth count = record { result = stack_register depth; first = operand_register depth 0; second = operand_register depth 1; third = operand_register depth 2 }
+
+-- the widths of the places of a site's operands
+abbrev pub widths_of : SiteKind → List Width
+widths_of (kind.Call op) = (row_of op).takes
+widths_of other = []
+
+abbrev pub count_of : SiteKind → ℕ
+count_of (kind.Call op) = arity_of op
+count_of kind.Opposite = 1
+count_of other = 2
+
+abbrev pub first_width : List Width → Width
+first_width [] = W32
+first_width (width ∷ widths) = width
+
+abbrev pub other_widths : List Width → List Width
+other_widths [] = []
+other_widths (width ∷ widths) = widths
+
+-- ---- what computes a value of the topmost ones, which it replaces
+
+abbrev pub around : Layout → (depth count : ℕ) → List Instr → List Instr
+around l depth count words = fetches l depth count ++ (words ++ finish_code l depth)
+
+abbrev pub site_code : Layout → (depth count site : ℕ) → SiteKind → List Instr
+site_code l depth count site kind = around l depth count (template_words kind (form_of kind) Kept site (site_registers depth count))
+
+-- the low 16 bits, as signed
+abbrev pub narrow_line : ℕ → List Instr
+narrow_line depth = Slli (stack_register depth) (operand_register depth 0) 16 ∷ Srai (stack_register depth) (stack_register depth) 16 ∷ []
+
+abbrev pub not_line : ℕ → List Instr
+not_line depth = Sltiu (stack_register depth) (operand_register depth 0) (pos 1) ∷ []
+
+abbrev pub invert_line : ℕ → List Instr
+invert_line depth = Addi 5 0 (negsuc 0) ∷ Sub (stack_register depth) 5 (operand_register depth 0) ∷ []
+
+-- 1 becomes 0, and 0 becomes 1
+abbrev pub turned : ℕ → Instr → List Instr
+turned depth instr = instr ∷ Xori (stack_register depth) (stack_register depth) (pos 1) ∷ []
+
+abbrev pub binary_line : BinaryMark → ℕ → List Instr
+binary_line binary.BitAnd depth = And (stack_register depth) (operand_register depth 0) (operand_register depth 1) ∷ []
+binary_line binary.BitOr depth = Or (stack_register depth) (operand_register depth 0) (operand_register depth 1) ∷ []
+binary_line binary.BitXor depth = Xor (stack_register depth) (operand_register depth 0) (operand_register depth 1) ∷ []
+binary_line binary.Eq depth =
+    Sub (stack_register depth) (operand_register depth 0) (operand_register depth 1) ∷ Sltiu (stack_register depth) (stack_register depth) (pos 1) ∷ []
+binary_line binary.Ne depth =
+    Sub (stack_register depth) (operand_register depth 0) (operand_register depth 1) ∷ Sltu (stack_register depth) 0 (stack_register depth) ∷ []
+binary_line binary.Lt depth = Slt (stack_register depth) (operand_register depth 0) (operand_register depth 1) ∷ []
+binary_line binary.Le depth = turned depth (Slt (stack_register depth) (operand_register depth 1) (operand_register depth 0))
+binary_line binary.Gt depth = Slt (stack_register depth) (operand_register depth 1) (operand_register depth 0) ∷ []
+binary_line binary.Ge depth = turned depth (Slt (stack_register depth) (operand_register depth 0) (operand_register depth 1))
+binary_line mark depth = []
+
+-- ---- expressions
+
+module _ (objects : List Object) (l : Layout) where
+  -- a value is converted to a width, but where its form shows that it has it
+  abbrev pub convert_code : Width → (shown : Bool) → (depth : ℕ) → List Instr
+  convert_code W32 shown depth = []
+  convert_code W16 true depth = []
+  convert_code W16 false depth = around l depth 1 (narrow_line depth)
+
+  abbrev mutual
+    pub expression_code : IrTree → (depth : ℕ) → List Instr
+    expression_code (Constant value) depth = number_code (stack_register depth) value ++ finish_code l depth
+    expression_code (Read target) depth = read_code target depth
+    expression_code (Operate site kind operands weight) depth = operands_code (widths_of kind) operands depth ++ site_code l depth (count_of kind) site kind
+    expression_code (Convert cast width part) depth = expression_code part depth ++ convert_code width (fits_sixteen objects part) depth
+    expression_code (Not part) depth = expression_code part depth ++ around l depth 1 (not_line depth)
+    expression_code (Invert part) depth = expression_code part depth ++ around l depth 1 (invert_line depth)
+    expression_code (Binary mark left right) depth = expression_code left depth ++ (expression_code right (depth + 1) ++ around l depth 2 (binary_line mark depth))
+    expression_code (ReadFlag word) depth = Addi (stack_register depth) 27 (pos 0) ∷ finish_code l depth
+    expression_code tree depth = []
+
+    pub read_code : IrTarget → (depth : ℕ) → List Instr
+    read_code (Variable object) depth = load_code (stack_register depth) (l.slot object) ++ finish_code l depth
+    read_code target depth = []
+
+    -- operands one after the other, each converted to the width of its place
+    pub operands_code : List Width → IrTrees → (depth : ℕ) → List Instr
+    operands_code widths end depth = []
+    operands_code widths (more first rest) depth =
+        (expression_code first depth ++ convert_code (first_width widths) (fits_sixteen objects first) depth) ++ operands_code (other_widths widths) rest (depth + 1)
+
+-- ---- the weight by which the count lags behind
+
+-- operators alone are counted
+abbrev pub own_weight : SiteKind → ℕ → ℕ
+own_weight (kind.Call op) weight = weight
+own_weight other weight = 0
+
+abbrev mutual
+  pub weight_of : IrTree → ℕ
+  weight_of (Operate site kind operands weight) = weights_of operands + own_weight kind weight
+  weight_of (Convert cast width part) = weight_of part
+  weight_of (Not part) = weight_of part
+  weight_of (Invert part) = weight_of part
+  weight_of (Binary mark left right) = weight_of left + weight_of right
+  weight_of tree = 0
+
+  pub weights_of : IrTrees → ℕ
+  weights_of end = 0
+  weights_of (more first rest) = weight_of first + weights_of rest

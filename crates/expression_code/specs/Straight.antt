@@ -1,0 +1,71 @@
+-- Expressions that have such code: over scalars, with operators and plain arithmetic, and without conditions.
+use Rattle.std.specs.Prelude.{ℕ, ◌+◌, max, Bool, true, false, ◌&&◌, ◌==◌, nat_lt, ℤ, pos, negsuc, int_le}
+use Rattle.c_tree.specs.declared.expression.BinaryMark.{BinaryMark}
+use Rattle.c_tree.specs.declared.expression.BinaryMark.TheVariants as binary
+use Rattle.operator_meaning.specs.declared.site.SiteKind.{SiteKind}
+use Rattle.operator_meaning.specs.declared.site.SiteKind.TheVariants as kind
+use Rattle.ir_arena.specs.Tree.{IrTree, IrTarget, IrTrees, Constant, Read, Operate, Convert, Not, Invert, Binary, ReadFlag, Variable, end, more}
+use Rattle.code_stacks.specs.Places.{Layout}
+use Rattle.expression_code.specs.Code.{count_of}
+
+abbrev pub is_number : ℤ → Bool
+is_number value = int_le (negsuc 2147483647) value && int_le value (pos 2147483647)
+
+abbrev pub is_site : SiteKind → Bool
+is_site (kind.Call op) = true
+is_site kind.Sum = true
+is_site kind.Difference = true
+is_site kind.Product = true
+is_site kind.Opposite = true
+is_site other = false
+
+-- a mark of which both operands are evaluated
+abbrev pub is_straight_mark : BinaryMark → Bool
+is_straight_mark binary.BitAnd = true
+is_straight_mark binary.BitOr = true
+is_straight_mark binary.BitXor = true
+is_straight_mark binary.Eq = true
+is_straight_mark binary.Ne = true
+is_straight_mark binary.Lt = true
+is_straight_mark binary.Le = true
+is_straight_mark binary.Gt = true
+is_straight_mark binary.Ge = true
+is_straight_mark mark = false
+
+abbrev pub is_variable_of : Layout → IrTarget → Bool
+is_variable_of l (Variable object) = l.is_variable object
+is_variable_of l target = false
+
+abbrev pub count_in : IrTrees → ℕ
+count_in end = 0
+count_in (more first rest) = count_in rest + 1
+
+abbrev mutual
+  pub is_straight : Layout → IrTree → Bool
+  is_straight l (Constant value) = is_number value
+  is_straight l (Read target) = is_variable_of l target
+  is_straight l (Operate site kind operands weight) = is_site kind && (count_in operands == count_of kind) && nat_lt site 4294967296 && are_straight l operands
+  is_straight l (Convert cast width part) = is_straight l part
+  is_straight l (Not part) = is_straight l part
+  is_straight l (Invert part) = is_straight l part
+  is_straight l (Binary mark left right) = is_straight_mark mark && is_straight l left && is_straight l right
+  is_straight l (ReadFlag word) = true
+  is_straight l tree = false
+
+  pub are_straight : Layout → IrTrees → Bool
+  are_straight l end = true
+  are_straight l (more first rest) = is_straight l first && are_straight l rest
+
+-- how many places of the stack an expression takes at once
+abbrev mutual
+  pub height_of : IrTree → ℕ
+  height_of (Operate site kind operands weight) = max 1 (heights_of operands)
+  height_of (Convert cast width part) = height_of part
+  height_of (Not part) = height_of part
+  height_of (Invert part) = height_of part
+  height_of (Binary mark left right) = max (height_of left) (1 + height_of right)
+  height_of tree = 1
+
+  pub heights_of : IrTrees → ℕ
+  heights_of end = 0
+  heights_of (more first rest) = max (height_of first) (1 + heights_of rest)
