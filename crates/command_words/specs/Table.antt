@@ -14,7 +14,7 @@ use Rattle.command_words.specs.Command.{IsName}
 abbrev pub rows : List (List ℕ × ℕ)
 rows = (codes "build", 2) ∷ (codes "run-image", 4) ∷ (codes "run-source", 4) ∷ []
 
--- so many words, which clap keeps under this name
+-- the words after a verb, so many of them, under the name by which clap keeps them
 abbrev pub words_rule : ℕ → Rule
 words_rule count = record (new_rule (codes "words")) {
   action = Some Set;

@@ -3,7 +3,7 @@
 ghost use Rattle.std.specs.Prelude.{◌≡◌, ◌↔◌, ◌∷◌, [], map, string_bytes, IsTrue, IfOk, IfSome, IfNone, All, List, ℕ};
 ghost use Rattle.command_words.specs.Command.{IsName, IsCommand, IsNoCommand};
 ghost use Rattle.command_words.specs.Table.{IsRow};
-ghost use Rattle.command_words.specs.Words.{asked_by};
+ghost use Rattle.command_words.specs.Words.{asked_by, run_words};
 
 use crate::numbers::{step_count, turn_count};
 use crate::table::{WORDS, row_in};
@@ -30,7 +30,8 @@ pub struct RunFiles<'a> {
     pub output: &'a str,
 }
 
-/// What the words after the program's name ask for; none exactly where they ask for nothing that there is.
+/// What the words after the program's name ask for; none exactly where they ask for nothing that
+/// there is.
 pub fn command_of<'a>(alloc: Global, words: &'a [String]) -> Result<Option<Command<'a>>, Memory>
     ensures found { IfOk result (λ asked. IfSome asked (λ command.
         IsCommand (map string_bytes words.now) (asked_by command))) }
@@ -66,7 +67,8 @@ fn is_name(word: &str) -> bool
 fn asked_in<'a>(row: &ArgMatches<'a>) -> Option<Command<'a>>
     ensures found { (words : List (List ℕ)) → IsRow words row.now
         → IfSome result (λ command. IsCommand words (asked_by command)) }
-    ensures none { (words : List (List ℕ)) → IsRow words row.now → IfNone result (IsNoCommand words) }
+    ensures none { (words : List (List ℕ)) → IsRow words row.now
+        → IfNone result (IsNoCommand words) }
 {
     let (verb, rest) = row.subcommand()?;
     asked(verb, rest.get_strs(WORDS)?)
@@ -107,11 +109,9 @@ fn build_asked<'a>(verb: &'a str, source: &'a str, image: &'a str) -> Option<Com
 
 // What a verb asks for, with four words after it.
 fn run_asked<'a>(verb: &'a str, files: RunFiles<'a>, count: &'a str) -> Option<Command<'a>>
-    ensures found { IfSome result (λ command. All IsName
-        (files.entry.program.now ∷ files.entry.input.now ∷ files.entry.output.now ∷ count.now ∷ []) → IsCommand
-        (verb.now ∷ files.entry.program.now ∷ files.entry.input.now ∷ files.entry.output.now ∷ count.now ∷ []) (asked_by command)) }
-    ensures none { IfNone result (IsNoCommand
-        (verb.now ∷ files.entry.program.now ∷ files.entry.input.now ∷ files.entry.output.now ∷ count.now ∷ [])) }
+    ensures found { IfSome result (λ command. All IsName (run_words files.entry count.now)
+        → IsCommand (verb.now ∷ run_words files.entry count.now) (asked_by command)) }
+    ensures none { IfNone result (IsNoCommand (verb.now ∷ run_words files.entry count.now)) }
 {
     match verb {
         "run-image" => {
