@@ -1,0 +1,41 @@
+-- Variables in small trees: the objects 0 and 1, which are called a and b.
+use Rattle.std.specs.Prelude.{ℕ, pos, true, None, List, [], ◌∷◌}
+use Rattle.sat_base.specs.declared.width.Width.TheVariants.{W16}
+use Rattle.c_tree.specs.declared.simple.AssignMark.TheVariants as mark
+use Rattle.ir_arena.specs.Tree.{IrTree, trees_from, TreeFunction, Constant, Read, Call, Left, Write, Out, Block, Loop, Variable, end, more}
+use Rattle.register_allocation.specs.Steps.{VariablePoint, VariableWays, uses_of, uses_of_function}
+use Rattle.register_allocation.specs.Live.{IsLive, IsLiveAcross, Conflict}
+
+-- `sample_out(a);`
+abbrev pub shown : ℕ → IrTree
+shown object = Out (Read (Variable object))
+
+-- `a = 1;`
+abbrev pub set_to_one : ℕ → IrTree
+set_to_one object = Write (Variable object) mark.Plain W16 None (Constant (pos 1))
+
+abbrev pub in_braces : List IrTree → IrTree
+in_braces parts = Block 2 0 end (trees_from parts)
+
+-- while (sample_left()) { sample_out(a); b = 1; sample_out(b); }
+abbrev pub read_in_a_loop : IrTree
+read_in_a_loop = Loop 1 true end (more Left end) end (in_braces (shown 0 ∷ set_to_one 1 ∷ shown 1 ∷ []))
+
+-- void f(Word16 a, Word16 b) { sample_out(a); sample_out(b); }
+abbrev pub of_two : TreeFunction
+of_two = record { gives = None; params = 0 ∷ 1 ∷ []; body = in_braces (shown 0 ∷ shown 1 ∷ []) }
+
+-- where a part begins
+abbrev pub start : VariableWays → VariablePoint
+start ways = record { mark = None; onward = ways.whole }
+
+pub record AreExamples : Type 0 where
+  -- the next turn reads a, so a is live where b has just been written
+  pub live_around_a_loop : Conflict (uses_of read_in_a_loop).points 0 1
+  -- { a = 1; sample_out(a); }
+  pub dead_before_a_write : IsLive 0 (start (uses_of (in_braces (set_to_one 0 ∷ shown 0 ∷ [])))) → ⊥
+  -- both are live where the function has been entered, and neither before
+  pub live_together : Conflict (uses_of_function of_two).points 0 1
+  pub written_at_entry : IsLive 0 (start (uses_of_function of_two)) → ⊥
+  -- { f(); sample_out(a); }
+  pub live_across_a_call : IsLiveAcross (uses_of (in_braces (Call 0 end ∷ shown 0 ∷ []))).points 0

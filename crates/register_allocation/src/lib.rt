@@ -1,0 +1,17 @@
+// Where the variables of a tree live.
+#![tactic(auto)]
+
+pub mod checking;
+pub mod home;
+pub mod laws;
+pub mod need;
+pub mod slots;
+pub mod spans;
+pub mod table;
+
+pub use checking::check_assign;
+pub use home::{Assign, Home, Homes};
+pub use laws::examples;
+pub use need::{Need, need_of};
+pub use slots::assign;
+pub use table::{Room, rooms};
