@@ -172,8 +172,8 @@ good-when tree lists rooms are count full fit distinct =
       complete = record {
         by_function = count;
         by_object = λ f low. full f (omega arith);
-        views_in_slots = λ number register need asks at. absurd (no number register at);
-        saved_registers = λ number register at. absurd (no number register at);
+        not_views = λ number register at. absurd (no number register at);
+        among_six = λ number register at. absurd (no number register at);
       };
       registers = record {
         conflicting = λ function one other register ne at other_at conflict. no one register at;

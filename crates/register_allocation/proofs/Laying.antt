@@ -142,8 +142,8 @@ laid-good tree lists count laid few =
       complete = record {
         by_function = count;
         by_object = λ function low. ap length (laid function (omega arith)) ∙ slots-count objects function (length objects);
-        views_in_slots = λ number register need asks at. absurd (no-register objects lists number register laid at);
-        saved_registers = λ number register at. absurd (no-register objects lists number register laid at);
+        not_views = λ number register at. absurd (no-register objects lists number register laid at);
+        among_six = λ number register at. absurd (no-register objects lists number register laid at);
       };
       registers = record {
         conflicting = λ function one other register ne at other_at conflict. no-register objects lists one register laid at;

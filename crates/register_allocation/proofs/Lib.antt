@@ -5,3 +5,4 @@ pub mod Tables
 pub mod Sorting
 pub mod Judging
 pub mod Small
+pub mod Complete

@@ -1,10 +1,23 @@
--- Variables in small trees: the objects 0 and 1, which are called a and b.
-use Rattle.std.specs.Prelude.{ℕ, pos, true, None, List, [], ◌∷◌}
+-- What follows from the definitions alone.
+use Rattle.std.specs.Prelude.{◌≡◌, ℕ, ◌<◌, pos, true, Some, None, length, List, [], ◌∷◌}
 use Rattle.sat_base.specs.declared.width.Width.TheVariants.{W16}
 use Rattle.c_tree.specs.declared.simple.AssignMark.TheVariants as mark
-use Rattle.ir_arena.specs.Tree.{IrTree, trees_from, TreeFunction, Constant, Read, Call, Left, Write, Out, Block, Loop, Variable, end, more}
+use Rattle.ir_arena.specs.Tree.{IrTree, trees_from, TreeFunction, IrWhole, Constant, Read, Call, Left, Write, Out, Block, Loop, Variable, end, more}
+use Rattle.register_allocation.specs.declared.home.Home.{Home}
+use Rattle.register_allocation.specs.declared.home.Homes.{Homes}
+use Rattle.register_allocation.specs.declared.need.Need.{Need}
+use Rattle.register_allocation.specs.Needs.{need_of}
+use Rattle.register_allocation.specs.Homes.{home_of}
 use Rattle.register_allocation.specs.Steps.{VariablePoint, VariableWays, uses_of, uses_of_function}
 use Rattle.register_allocation.specs.Live.{IsLive, IsLiveAcross, Conflict}
+
+-- each tracked variable and each view of a function has a home
+abbrev pub EachHasHome : IrWhole → List Homes → Type 0
+EachHasHome tree lists =
+    (number : ℕ) (need : Need) → need_of tree.objects number ≡ Some need → need.function < length tree.functions
+    → (home : Home) × (home_of tree.objects lists number ≡ Some home)
+
+-- ---- variables in small trees: the objects 0 and 1 are called a and b
 
 -- `sample_out(a);`
 abbrev pub shown : ℕ → IrTree

@@ -11,7 +11,7 @@ pub mod table;
 
 pub use checking::check_assign;
 pub use home::{Assign, Home, Homes};
-pub use laws::examples;
+pub use laws::{each_has_home, examples};
 pub use need::{Need, need_of};
 pub use slots::assign;
 pub use table::{Room, rooms};

@@ -1,4 +1,4 @@
--- How a loop is gone through, at any number of turns.
+-- How a loop is gone through, at any number of turns. Its condition may go either way, also where it is missing.
 use Rattle.std.specs.Prelude.{ℕ, zero, suc, Bool, true, false}
 use Rattle.tree_walks.specs.Ways.{Way, nothing, never, Then, either, AfterBody}
 use Rattle.tree_walks.specs.Points.{Ways, joined, going_on}
