@@ -9,52 +9,52 @@ use Rattle.ir_arena.specs.Tree.{IrWhole}
 use Rattle.register_allocation.specs.declared.home.Home.{Home}
 use Rattle.register_allocation.specs.declared.home.Home.TheVariants.{Slot, Register}
 use Rattle.register_allocation.specs.declared.home.Homes.{Homes}
-use Rattle.register_allocation.specs.declared.need.Need.{Need}
-use Rattle.register_allocation.specs.Needs.{need_of, need_where}
+use Rattle.register_allocation.specs.declared.claim.Claim.{Claim}
+use Rattle.register_allocation.specs.Claims.{claim_of, claim_where}
 use Rattle.register_allocation.specs.Homes.{homes_at, counts_for, homes_before, home_of, home_where}
 use Rattle.register_allocation.specs.Good.{slots_end, slot_bytes, bytes_where, AreAllSlots, IsGoodAssignment}
-use Rattle.register_allocation.specs.Gathered.{listed, gathered}
+use Rattle.register_allocation.specs.Collected.{one_or_none, collected}
 use Rattle.register_allocation.specs.Laid.{bytes_before, slot_for, slot_in}
 use Rattle.register_allocation.proofs.Places.{at-place, given-at}
 use Rattle.register_allocation.proofs.Lists.{no-list}
 
 -- ---- what asks for a home is an object
 
-need-there : (objects : List Object) (number : ℕ) (need : Need) (object : Option Object) → slice_get objects number ≡ object → need_where objects number object ≡ Some need → number < length objects
-need-there objects number need None at is = let no : None ≡ Some need = is in cc
-need-there objects number need (Some object) at is = slice_get_within objects number object at
+claim-there : (objects : List Object) (number : ℕ) (claim : Claim) (object : Option Object) → slice_get objects number ≡ object → claim_where objects number object ≡ Some claim → number < length objects
+claim-there objects number claim None at is = let no : None ≡ Some claim = is in cc
+claim-there objects number claim (Some object) at is = slice_get_within objects number object at
 
-pub need-within : (objects : List Object) (number : ℕ) (need : Need) → need_of objects number ≡ Some need → number < length objects
-need-within objects number need is = need-there objects number need (slice_get objects number) refl is
+pub claim-within : (objects : List Object) (number : ℕ) (claim : Claim) → claim_of objects number ≡ Some claim → number < length objects
+claim-within objects number claim is = claim-there objects number claim (slice_get objects number) refl is
 
 -- ---- the list of each function
 
-slot-counts_if : (own : Bool) (home : Home) → length (listed (if own then Some home else None)) ≡ (if own then 1 else 0)
+slot-counts_if : (own : Bool) (home : Home) → length (one_or_none (if own then Some home else None)) ≡ (if own then 1 else 0)
 slot-counts_if true home = refl
 slot-counts_if false home = refl
 
-slot-counts : (function from : ℕ) (need : Option Need) → length (listed (slot_for function from need)) ≡ counts_for function need
+slot-counts : (function from : ℕ) (claim : Option Claim) → length (one_or_none (slot_for function from claim)) ≡ counts_for function claim
 slot-counts function from None = refl
-slot-counts function from (Some need) = slot-counts_if (need.function == function) (Slot from)
+slot-counts function from (Some claim) = slot-counts_if (claim.function == function) (Slot from)
 
-slots-count : (objects : List Object) (function number : ℕ) → length (gathered (slot_in objects function) number) ≡ homes_before objects function number
+slots-count : (objects : List Object) (function number : ℕ) → length (collected (slot_in objects function) number) ≡ homes_before objects function number
 slots-count objects function zero = refl
 slots-count objects function (suc number) =
-    length-append (gathered (slot_in objects function) number) (listed (slot_in objects function number))
-    ∙ ap (λ n. n + length (listed (slot_in objects function number))) (slots-count objects function number)
-    ∙ ap (λ n. homes_before objects function number + n) (slot-counts function (bytes_before objects number) (need_of objects number))
+    length-append (collected (slot_in objects function) number) (one_or_none (slot_in objects function number))
+    ∙ ap (λ n. n + length (one_or_none (slot_in objects function number))) (slots-count objects function number)
+    ∙ ap (λ n. homes_before objects function number + n) (slot-counts function (bytes_before objects number) (claim_of objects number))
 
 slot-if : (own : Bool) (from register : ℕ) → (if own then Some (Slot from) else None) ≡ Some (Register register) → ⊥
 slot-if true from register is = let no : Some (Slot from) ≡ Some (Register register) = is in cc
 slot-if false from register is = let no : None ≡ Some (Register register) = is in cc
 
-slot-is : (function from register : ℕ) (need : Option Need) → slot_for function from need ≡ Some (Register register) → ⊥
+slot-is : (function from register : ℕ) (claim : Option Claim) → slot_for function from claim ≡ Some (Register register) → ⊥
 slot-is function from register None is = let no : None ≡ Some (Register register) = is in cc
-slot-is function from register (Some need) is = slot-if (need.function == function) from register is
+slot-is function from register (Some claim) is = slot-if (claim.function == function) from register is
 
 -- each list has the slots of the objects of its function
 abbrev pub AreLaid : List Object → List Homes → Type 0
-AreLaid objects lists = (function : ℕ) → function < length lists → homes_at lists function ≡ gathered (slot_in objects function) (length objects)
+AreLaid objects lists = (function : ℕ) → function < length lists → homes_at lists function ≡ collected (slot_in objects function) (length objects)
 
 -- ---- the bytes
 
@@ -65,15 +65,15 @@ few-if : (view : Bool) → AreFew (if view then 12 else 4)
 few-if true = inr (inr refl)
 few-if false = inr (inl refl)
 
-bytes-few : (need : Option Need) → AreFew (bytes_where need)
+bytes-few : (claim : Option Claim) → AreFew (bytes_where claim)
 bytes-few None = inl refl
-bytes-few (Some need) = few-if need.view
+bytes-few (Some claim) = few-if claim.view
 
 bytes-aligned : (objects : List Object) (number : ℕ) → bytes_before objects number % 4 ≡ 0
 bytes-aligned objects zero = refl
 bytes-aligned objects (suc number) =
     let before = bytes-aligned objects number in
-    elim (bytes-few (need_of objects number)) [ inl none ↦ omega arith | inr (inl four) ↦ omega arith | inr (inr twelve) ↦ omega arith ]
+    elim (bytes-few (claim_of objects number)) [ inl none ↦ omega arith | inr (inl four) ↦ omega arith | inr (inr twelve) ↦ omega arith ]
 
 bytes-rise : (objects : List Object) (number total : ℕ) → number ≤ total → bytes_before objects number ≤ bytes_before objects total
 bytes-rise objects number zero low = let none : number ≡ 0 = omega arith in rw none (omega arith)
@@ -84,31 +84,31 @@ bytes-rise objects number (suc total) low = elim (cases_lt number (suc total)) [
 
 -- ---- where each object lives
 
-laid-slot : (objects : List Object) (lists : List Homes) (number : ℕ) (need : Need) → AreLaid objects lists → need_of objects number ≡ Some need → need.function < length lists
+laid-slot : (objects : List Object) (lists : List Homes) (number : ℕ) (claim : Claim) → AreLaid objects lists → claim_of objects number ≡ Some claim → claim.function < length lists
     → home_of objects lists number ≡ Some (Slot (bytes_before objects number))
-laid-slot objects lists number need laid is low =
-    let given = slot_in objects need.function in
+laid-slot objects lists number claim laid is low =
+    let given = slot_in objects claim.function in
     let slot = Slot (bytes_before objects number) in
     let gives : given number ≡ Some slot =
-    ap (slot_for need.function (bytes_before objects number)) is ∙ ap (λ (own : Bool). if own then Some slot else None) (eq-eqb need.function need.function refl) in
-    ap (home_where objects lists number) is ∙ ap (λ (homes : List Home). slice_get homes (homes_before objects need.function number)) (laid need.function low)
-    ∙ ap (slice_get (gathered given (length objects))) (sym (slots-count objects need.function number))
-    ∙ at-place given number (length objects) slot gives (need-within objects number need is)
+    ap (slot_for claim.function (bytes_before objects number)) is ∙ ap (λ (own : Bool). if own then Some slot else None) (eq-eqb claim.function claim.function refl) in
+    ap (home_where objects lists number) is ∙ ap (λ (homes : List Home). slice_get homes (homes_before objects claim.function number)) (laid claim.function low)
+    ∙ ap (slice_get (collected given (length objects))) (sym (slots-count objects claim.function number))
+    ∙ at-place given number (length objects) slot gives (claim-within objects number claim is)
 
-laid-there : (objects : List Object) (lists : List Homes) (number : ℕ) (home : Home) (need : Option Need) → AreLaid objects lists → need_of objects number ≡ need
-    → home_where objects lists number need ≡ Some home → (home ≡ Slot (bytes_before objects number)) × (number < length objects)
+laid-there : (objects : List Object) (lists : List Homes) (number : ℕ) (home : Home) (claim : Option Claim) → AreLaid objects lists → claim_of objects number ≡ claim
+    → home_where objects lists number claim ≡ Some home → (home ≡ Slot (bytes_before objects number)) × (number < length objects)
 laid-there objects lists number home None laid is at = let no : None ≡ Some home = at in cc
-laid-there objects lists number home (Some need) laid is at = elim (cases_lt need.function (length lists)) [
+laid-there objects lists number home (Some claim) laid is at = elim (cases_lt claim.function (length lists)) [
   | inl low ↦
-      let slot = laid-slot objects lists number need laid is low in
+      let slot = laid-slot objects lists number claim laid is low in
       let same : Some home ≡ Some (Slot (bytes_before objects number)) = sym at ∙ (sym (ap (home_where objects lists number) is) ∙ slot) in
-      (cc, need-within objects number need is)
-  | inr past ↦ let no : None ≡ Some home = sym (ap (λ (homes : List Home). slice_get homes (homes_before objects need.function number)) (no-list lists need.function past)) ∙ at in cc
+      (cc, claim-within objects number claim is)
+  | inr past ↦ let no : None ≡ Some home = sym (ap (λ (homes : List Home). slice_get homes (homes_before objects claim.function number)) (no-list lists claim.function past)) ∙ at in cc
 ]
 
 laid-only : (objects : List Object) (lists : List Homes) (number : ℕ) (home : Home) → AreLaid objects lists → home_of objects lists number ≡ Some home
     → (home ≡ Slot (bytes_before objects number)) × (number < length objects)
-laid-only objects lists number home laid at = laid-there objects lists number home (need_of objects number) laid refl at
+laid-only objects lists number home laid at = laid-there objects lists number home (claim_of objects number) laid refl at
 
 no-register : (objects : List Object) (lists : List Homes) (number register : ℕ) → AreLaid objects lists → home_of objects lists number ≡ Some (Register register) → ⊥
 no-register objects lists number register laid at = let only = (laid-only objects lists number (Register register) laid at).0 in cc
@@ -130,7 +130,7 @@ pub laid-slots : (objects : List Object) (lists : List Homes) → AreLaid object
 laid-slots objects lists laid function place register at = elim (cases_lt function (length lists)) [
   | inl low ↦
       let by = given-at (slot_in objects function) (length objects) place (Register register) (ap (λ (homes : List Home). slice_get homes place) (sym (laid function low)) ∙ at) in
-      slot-is function (bytes_before objects by.number) register (need_of objects by.number) by.gives
+      slot-is function (bytes_before objects by.number) register (claim_of objects by.number) by.gives
   | inr past ↦ let no : None ≡ Some (Register register) = sym (ap (λ (homes : List Home). slice_get homes place) (no-list lists function past)) ∙ at in cc
 ]
 
@@ -165,10 +165,10 @@ laid-good tree lists count laid few =
 
 -- as the loop ends
 pub laid-end : (objects shown : List Object) (lists result : List Homes) (number : ℕ) → shown ≡ objects → result ≡ lists → number ≡ length shown
-    → ((f : ℕ) → f < length lists → homes_at lists f ≡ gathered (slot_in shown f) number) → AreLaid objects result
+    → ((f : ℕ) → f < length lists → homes_at lists f ≡ collected (slot_in shown f) number) → AreLaid objects result
 laid-end objects shown lists result number shows is all filled =
     subst (λ (l : List Homes). AreLaid objects l) (sym is)
-    (λ f low. filled f low ∙ ap (λ (os : List Object). gathered (slot_in os f) number) shows ∙ ap (gathered (slot_in objects f)) (all ∙ ap length shows))
+    (λ f low. filled f low ∙ ap (λ (os : List Object). collected (slot_in os f) number) shows ∙ ap (collected (slot_in objects f)) (all ∙ ap length shows))
 
 pub few-end : (objects shown : List Object) (number end : ℕ) → shown ≡ objects → number ≡ length shown → end ≡ bytes_before shown number → end ≤ slots_end
     → bytes_before objects (length objects) ≤ slots_end

@@ -7,7 +7,7 @@ use Rattle.std.proofs.lemmas.Option.{slice_get_past, slice_get-get_or}
 use Rattle.register_allocation.specs.declared.home.Home.{Home}
 use Rattle.register_allocation.specs.declared.home.Homes.{Homes}
 use Rattle.register_allocation.specs.Homes.{homes_at, homes_where}
-use Rattle.register_allocation.specs.Gathered.{listed}
+use Rattle.register_allocation.specs.Collected.{one_or_none}
 use Rattle.register_allocation.specs.Laid.{AreEmpty, AddsHome}
 
 get-set_same : {A : Type 0} (xs : List A) (i : ℕ) (x : A) → i < length xs → slice_get (slice_set xs i x) i ≡ Some x
@@ -31,8 +31,8 @@ empty-more (first ∷ lists) list none empty (suc f) = empty-more lists list non
 pub no-list : (lists : List Homes) (function : ℕ) → length lists ≤ function → homes_at lists function ≡ []
 no-list lists function past = ap homes_where (slice_get_past lists function past)
 
-if_own : (function f : ℕ) (home : Home) (own : Bool) → (function == f) ≡ own → listed (if own then Some home else None) ≡ listed (if function == f then Some home else None)
-if_own function f home own is = ap (λ (t : Bool). listed (if t then Some home else None)) (sym is)
+if_own : (function f : ℕ) (home : Home) (own : Bool) → (function == f) ≡ own → one_or_none (if own then Some home else None) ≡ one_or_none (if function == f then Some home else None)
+if_own function f home own is = ap (λ (t : Bool). one_or_none (if t then Some home else None)) (sym is)
 
 pub home-added : (lists : List Homes) (function : ℕ) (home : Home) (homes : List Home) (list : Homes) → function < length lists
     → homes ≡ (get_or lists function list).homes ++ home ∷ [] → AddsHome lists (slice_set lists function (record { homes = homes })) function home
@@ -43,7 +43,7 @@ home-added lists function home homes list low is f bound =
     ap homes_where (get-set_same lists function new low) ∙ is ∙ ap (λ (xs : List Home). xs ++ home ∷ []) (sym (ap homes_where got)) in
     elim (cases_eq f function) [
       | inl same ↦
-          subst (λ (k : ℕ). homes_at (slice_set lists function new) k ≡ homes_at lists k ++ listed (if function == k then Some home else None)) (sym same)
+          subst (λ (k : ℕ). homes_at (slice_set lists function new) k ≡ homes_at lists k ++ one_or_none (if function == k then Some home else None)) (sym same)
           (this ∙ ap (λ (xs : List Home). homes_at lists function ++ xs) (if_own function function home true (eq-eqb function function refl)))
       | inr other ↦
           ap homes_where (get-set_other lists function f new other) ∙ sym (append-nil (homes_at lists f))

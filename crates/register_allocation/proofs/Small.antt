@@ -2,9 +2,9 @@
 use Rattle.std.proofs.Common.{◌≡◌, ℕ, zero, suc, true, false, List, [], ◌∷◌, ◌++◌, refl, sym, ap, subst, ◌∙◌, inl, inr, append_assoc}
 use Rattle.std.proofs.lemmas.List.{append-nil}
 use Rattle.tree_walks.specs.Ways.{Way, PartExit, Through, Underway, left, not_left, taken, not_yet, stays, goes_on, turns, unfinished, IsOut, broken, continued, returned, underway, Takes, Then, nothing}
-use Rattle.register_allocation.specs.Steps.{VariableStep, VariablePoint, Reads, Writes, uses_of, uses_of_function}
-use Rattle.register_allocation.specs.Live.{ReadsFirst, reads, keeps, IsLive}
-use Rattle.register_allocation.specs.Laws.{shown, set_to_one, in_braces, of_two, start, AreExamples}
+use Rattle.register_allocation.specs.Steps.{VariableStep, VariablePoint, ReadsVariable, WritesVariables, uses_of, uses_of_function}
+use Rattle.register_allocation.specs.Live.{ReadsFirst, read_now, read_later, IsLive}
+use Rattle.register_allocation.specs.Laws.{sample_out_of, set_to_one, in_braces, two_parameters, beginning_of, AreExamples}
 
 -- ---- what is one list of steps, or a front of it
 
@@ -40,8 +40,8 @@ straight-then one other is next _ _ (goes_on {steps} {more} {exit} way onward) =
     record { rest = that.rest; front = append_assoc steps more that.rest ∙ ap (λ xs. xs ++ (more ++ that.rest)) all ∙ ap (λ xs. one ++ xs) that.front; ends = that.ends }
 
 reads-more : (variable : ℕ) (steps rest : List VariableStep) → ReadsFirst variable steps → ReadsFirst variable (steps ++ rest)
-reads-more variable _ rest (reads {later}) = reads
-reads-more variable _ rest (keeps {step} {later} keep after) = keeps keep (reads-more variable later rest after)
+reads-more variable _ rest (read_now {later}) = read_now
+reads-more variable _ rest (read_later {step} {later} keep after) = read_later keep (reads-more variable later rest after)
 
 live-straight : (variable : ℕ) (point : VariablePoint) (full : List VariableStep) → IsStraight point.onward full → IsLive variable point → ReadsFirst variable full
 live-straight variable point full straight (steps, exit, way, first) =
@@ -53,59 +53,59 @@ live-straight variable point full straight (steps, exit, way, first) =
 here : nothing {Step = VariableStep} [] Through
 here = (refl, left)
 
-read : (object : ℕ) → Then nothing (Takes (Reads object)) (Reads object ∷ []) Through
+read : (object : ℕ) → Then nothing (Takes (ReadsVariable object)) (ReadsVariable object ∷ []) Through
 read object = goes_on here (taken left)
 
-reading : (object : ℕ) → Then nothing (Takes (Reads object)) (Reads object ∷ []) Underway
+reading : (object : ℕ) → Then nothing (Takes (ReadsVariable object)) (ReadsVariable object ∷ []) Underway
 reading object = goes_on here (taken not_left)
 
-straight-read : (object : ℕ) → IsStraight (Then nothing (Takes (Reads object))) (Reads object ∷ [])
-straight-read object = straight-then [] (Reads object ∷ []) straight-nothing (straight-takes (Reads object))
+straight-read : (object : ℕ) → IsStraight (Then nothing (Takes (ReadsVariable object))) (ReadsVariable object ∷ [])
+straight-read object = straight-then [] (ReadsVariable object ∷ []) straight-nothing (straight-takes (ReadsVariable object))
 
-straight-write : IsStraight (Then nothing (Then nothing (Then nothing (Takes (Writes (0 ∷ [])))))) (Writes (0 ∷ []) ∷ [])
+straight-write : IsStraight (Then nothing (Then nothing (Then nothing (Takes (WritesVariables (0 ∷ [])))))) (WritesVariables (0 ∷ []) ∷ [])
 straight-write =
-    straight-then [] (Writes (0 ∷ []) ∷ []) straight-nothing
-    (straight-then [] (Writes (0 ∷ []) ∷ []) straight-nothing (straight-then [] (Writes (0 ∷ []) ∷ []) straight-nothing (straight-takes (Writes (0 ∷ [])))))
+    straight-then [] (WritesVariables (0 ∷ []) ∷ []) straight-nothing
+    (straight-then [] (WritesVariables (0 ∷ []) ∷ []) straight-nothing (straight-then [] (WritesVariables (0 ∷ []) ∷ []) straight-nothing (straight-takes (WritesVariables (0 ∷ [])))))
 
 -- `{ a = 1; sample_out(a); }`
 abbrev written : List VariableStep
-written = Writes [] ∷ Writes (0 ∷ []) ∷ Reads 0 ∷ []
+written = WritesVariables [] ∷ WritesVariables (0 ∷ []) ∷ ReadsVariable 0 ∷ []
 
 dead : ReadsFirst 0 written → ⊥
-dead (keeps _ (keeps kept _)) = let no : true ≡ false = kept in cc
+dead (read_later _ (read_later kept _)) = let no : true ≡ false = kept in cc
 
 -- two parameters, from before they are given
 abbrev entered : List VariableStep
-entered = Writes (0 ∷ 1 ∷ []) ∷ Writes [] ∷ Reads 0 ∷ Reads 1 ∷ []
+entered = WritesVariables (0 ∷ 1 ∷ []) ∷ WritesVariables [] ∷ ReadsVariable 0 ∷ ReadsVariable 1 ∷ []
 
 not-yet-live : ReadsFirst 0 entered → ⊥
-not-yet-live (keeps kept _) = let no : true ≡ false = kept in cc
+not-yet-live (read_later kept _) = let no : true ≡ false = kept in cc
 
 pub examples : AreExamples
 examples = record {
   live_around_a_loop = inr (inr (inr (inr (inr (inr (inr (inr (inl (inl (
     (
-      Reads 1 ∷ Writes [] ∷ Reads 0 ∷ [],
+      ReadsVariable 1 ∷ WritesVariables [] ∷ ReadsVariable 0 ∷ [],
       Underway,
       (suc zero, turns (goes_on here (goes_on (read 1) here)) (goes_on here (goes_on (goes_on here here) (inr (unfinished (goes_on (taken left) (goes_on here (stays (reading 0) underway)))))))),
-      keeps refl (keeps refl reads),
+      read_later refl (read_later refl read_now),
     ),
     inr refl,
   ))))))))));
   dead_before_a_write = λ live.
-      dead (live-straight 0 (start (uses_of (in_braces (set_to_one 0 ∷ shown 0 ∷ [])))) written
-      (straight-then (Writes [] ∷ []) (Writes (0 ∷ []) ∷ Reads 0 ∷ []) (straight-takes (Writes []))
-      (straight-then [] (Writes (0 ∷ []) ∷ Reads 0 ∷ []) straight-nothing
-      (straight-then (Writes (0 ∷ []) ∷ []) (Reads 0 ∷ []) straight-write (straight-then (Reads 0 ∷ []) [] (straight-read 0) straight-nothing)))) live);
+      dead (live-straight 0 (beginning_of (uses_of (in_braces (set_to_one 0 ∷ sample_out_of 0 ∷ [])))) written
+      (straight-then (WritesVariables [] ∷ []) (WritesVariables (0 ∷ []) ∷ ReadsVariable 0 ∷ []) (straight-takes (WritesVariables []))
+      (straight-then [] (WritesVariables (0 ∷ []) ∷ ReadsVariable 0 ∷ []) straight-nothing
+      (straight-then (WritesVariables (0 ∷ []) ∷ []) (ReadsVariable 0 ∷ []) straight-write (straight-then (ReadsVariable 0 ∷ []) [] (straight-read 0) straight-nothing)))) live);
   live_together = inr (inl (inl (
-    (Writes [] ∷ Reads 0 ∷ [], Underway, goes_on here (goes_on (taken left) (goes_on here (stays (reading 0) underway))), keeps refl reads),
-    inl (Writes [] ∷ Reads 0 ∷ Reads 1 ∷ [], Underway, goes_on here (goes_on (taken left) (goes_on here (goes_on (read 0) (stays (reading 1) underway)))), keeps refl (keeps refl reads)),
+    (WritesVariables [] ∷ ReadsVariable 0 ∷ [], Underway, goes_on here (goes_on (taken left) (goes_on here (stays (reading 0) underway))), read_later refl read_now),
+    inl (WritesVariables [] ∷ ReadsVariable 0 ∷ ReadsVariable 1 ∷ [], Underway, goes_on here (goes_on (taken left) (goes_on here (goes_on (read 0) (stays (reading 1) underway)))), read_later refl (read_later refl read_now)),
   )));
   written_at_entry = λ live.
-      not-yet-live (live-straight 0 (start (uses_of_function of_two)) entered
-      (straight-then (Writes (0 ∷ 1 ∷ []) ∷ []) (Writes [] ∷ Reads 0 ∷ Reads 1 ∷ []) (straight-takes (Writes (0 ∷ 1 ∷ [])))
-      (straight-then (Writes [] ∷ []) (Reads 0 ∷ Reads 1 ∷ []) (straight-takes (Writes []))
-      (straight-then [] (Reads 0 ∷ Reads 1 ∷ []) straight-nothing
-      (straight-then (Reads 0 ∷ []) (Reads 1 ∷ []) (straight-read 0) (straight-then (Reads 1 ∷ []) [] (straight-read 1) straight-nothing))))) live);
-  live_across_a_call = inr (inr (inr (inr (inl ((0, refl), (Reads 0 ∷ [], Underway, goes_on here (stays (reading 0) underway), reads))))));
+      not-yet-live (live-straight 0 (beginning_of (uses_of_function two_parameters)) entered
+      (straight-then (WritesVariables (0 ∷ 1 ∷ []) ∷ []) (WritesVariables [] ∷ ReadsVariable 0 ∷ ReadsVariable 1 ∷ []) (straight-takes (WritesVariables (0 ∷ 1 ∷ [])))
+      (straight-then (WritesVariables [] ∷ []) (ReadsVariable 0 ∷ ReadsVariable 1 ∷ []) (straight-takes (WritesVariables []))
+      (straight-then [] (ReadsVariable 0 ∷ ReadsVariable 1 ∷ []) straight-nothing
+      (straight-then (ReadsVariable 0 ∷ []) (ReadsVariable 1 ∷ []) (straight-read 0) (straight-then (ReadsVariable 1 ∷ []) [] (straight-read 1) straight-nothing))))) live);
+  live_across_a_call = inr (inr (inr (inr (inl ((0, refl), (ReadsVariable 0 ∷ [], Underway, goes_on here (stays (reading 0) underway), read_now))))));
 }

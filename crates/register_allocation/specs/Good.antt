@@ -6,8 +6,8 @@ use Rattle.ir_cuts.specs.Cuts.{is_tracked}
 use Rattle.register_allocation.specs.declared.home.Assign.{Assign}
 use Rattle.register_allocation.specs.declared.home.Home.TheVariants.{Slot, Register}
 use Rattle.register_allocation.specs.declared.home.Homes.{Homes}
-use Rattle.register_allocation.specs.declared.need.Need.{Need}
-use Rattle.register_allocation.specs.Needs.{need_of, bytes_of}
+use Rattle.register_allocation.specs.declared.claim.Claim.{Claim}
+use Rattle.register_allocation.specs.Claims.{claim_of, bytes_of_claim}
 use Rattle.register_allocation.specs.Homes.{homes_at, homes_before, home_of}
 use Rattle.register_allocation.specs.Live.{IsLiveAcross, Conflict}
 use Rattle.register_allocation.specs.Steps.{points_in}
@@ -16,13 +16,13 @@ use Rattle.register_allocation.specs.Steps.{points_in}
 abbrev pub slots_end : ℕ
 slots_end = 4194304
 
-abbrev pub bytes_where : Option Need → ℕ
-bytes_where (Some need) = bytes_of need
+abbrev pub bytes_where : Option Claim → ℕ
+bytes_where (Some claim) = bytes_of_claim claim
 bytes_where None = 0
 
 -- the bytes of the slot of an object: 4 of a tracked variable, 12 of a view
 abbrev pub slot_bytes : List Object → ℕ → ℕ
-slot_bytes objects number = bytes_where (need_of objects number)
+slot_bytes objects number = bytes_where (claim_of objects number)
 
 -- where the object of a number lives: in this slot, or in this register
 abbrev pub HasSlot : List Object → List Homes → ℕ → ℕ → Type 0
@@ -55,14 +55,14 @@ abbrev pub SlotsFit : List Object → List Homes → Type 0
 SlotsFit objects lists = (number from : ℕ) → HasSlot objects lists number from → LiesInData from (slot_bytes objects number)
 
 -- one ends before the other starts
-abbrev pub AreApart : ℕ → ℕ → ℕ → ℕ → Type 0
-AreApart from bytes other_from other_bytes = (from + bytes ≤ other_from) ⊎ (other_from + other_bytes ≤ from)
+abbrev pub LieApart : ℕ → ℕ → ℕ → ℕ → Type 0
+LieApart from bytes other_from other_bytes = (from + bytes ≤ other_from) ⊎ (other_from + other_bytes ≤ from)
 
 -- Slots of different objects do not overlap, whatever their functions.
 abbrev pub SlotsAreApart : List Object → List Homes → Type 0
 SlotsAreApart objects lists =
     (one other from other_from : ℕ) → one ≢ other → HasSlot objects lists one from → HasSlot objects lists other other_from
-    → AreApart from (slot_bytes objects one) other_from (slot_bytes objects other)
+    → LieApart from (slot_bytes objects one) other_from (slot_bytes objects other)
 
 pub record IsGoodAssignment (tree : IrWhole) (assign : Assign) : Type 0 where
   pub complete : AreComplete tree.objects (length tree.functions) assign.functions

@@ -1,10 +1,10 @@
 pub mod Good
 pub mod Homes
-pub mod Needs
+pub mod Claims
 pub mod Live
 pub mod Steps
 pub mod Laws
-pub mod Gathered
+pub mod Collected
 pub mod Laid
 pub mod Tables
 pub mod Overlaps

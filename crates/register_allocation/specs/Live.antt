@@ -3,16 +3,16 @@ use Rattle.std.specs.Prelude.{◌≡◌, ℕ, Bool, true, false, List, ◌∷◌
 use Rattle.std.specs.List.{list_any}
 use Rattle.tree_walks.specs.Ways.{PartExit}
 use Rattle.tree_walks.specs.Points.{SomePoint}
-use Rattle.register_allocation.specs.Steps.{VariableStep, VariablePoint, Reads, Writes, Calls}
+use Rattle.register_allocation.specs.Steps.{VariableStep, VariablePoint, ReadsVariable, WritesVariables, PassesCall}
 
 abbrev pub step_writes : VariableStep → ℕ → Bool
-step_writes (Writes variables) variable = list_any (nat_eq variable) variables
+step_writes (WritesVariables variables) variable = list_any (nat_eq variable) variables
 step_writes step variable = false
 
 -- the variable is read before it is written
 pub data ReadsFirst (variable : ℕ) : List VariableStep → Type 0 where
-  reads : {later : List VariableStep} → ReadsFirst variable (Reads variable ∷ later)
-  keeps : {step : VariableStep} {later : List VariableStep} → step_writes step variable ≡ false → ReadsFirst variable later → ReadsFirst variable (step ∷ later)
+  read_now : {later : List VariableStep} → ReadsFirst variable (ReadsVariable variable ∷ later)
+  read_later : {step : VariableStep} {later : List VariableStep} → step_writes step variable ≡ false → ReadsFirst variable later → ReadsFirst variable (step ∷ later)
 
 -- A variable is live at a point where some walk from there inside its function reads it before it is written.
 abbrev pub IsLive : ℕ → VariablePoint → Type 0
@@ -28,7 +28,7 @@ IsJustWritten variable point = just_writes point.mark variable ≡ true
 
 -- a called function of the source has just returned there
 abbrev pub IsAfterCall : VariablePoint → Type 0
-IsAfterCall point = (function : ℕ) × (point.mark ≡ Some (Calls function))
+IsAfterCall point = (function : ℕ) × (point.mark ≡ Some (PassesCall function))
 
 -- A variable is live across a call where it is live just after a called function of the source has returned.
 abbrev pub IsLiveAcross : List VariablePoint → ℕ → Type 0

@@ -6,16 +6,16 @@ use Rattle.register_allocation.specs.declared.home.Home.TheVariants.{Slot, Regis
 use Rattle.register_allocation.specs.declared.table.Room.{Room}
 use Rattle.register_allocation.specs.declared.spans.Span.{Span}
 use Rattle.register_allocation.specs.Good.{slots_end}
-use Rattle.register_allocation.specs.Gathered.{gathered}
+use Rattle.register_allocation.specs.Collected.{collected}
 
-abbrev pub fits_home : ℕ → Option Home → Bool
-fits_home bytes (Some (Slot from)) = (from % 4 == 0) && nat_le (from + bytes) slots_end
-fits_home bytes (Some (Register register)) = false
-fits_home bytes None = true
+abbrev pub home_lies_right : ℕ → Option Home → Bool
+home_lies_right bytes (Some (Slot from)) = (from % 4 == 0) && nat_le (from + bytes) slots_end
+home_lies_right bytes (Some (Register register)) = false
+home_lies_right bytes None = true
 
 -- what lives there has no home, or a slot that lies right
-abbrev pub fits : Room → Bool
-fits room = fits_home room.bytes room.home
+abbrev pub lies_right : Room → Bool
+lies_right room = home_lies_right room.bytes room.home
 
 abbrev pub span_of_home : ℕ → Option Home → Option Span
 span_of_home bytes (Some (Slot from)) = Some (record { from = from; bytes = bytes })
@@ -30,7 +30,7 @@ span_at rooms number = span_where (slice_get rooms number)
 
 -- the slots, in the order of the objects
 abbrev pub spans_of : List Room → List Span
-spans_of rooms = gathered (span_at rooms) (length rooms)
+spans_of rooms = collected (span_at rooms) (length rooms)
 
 abbrev pub HaveBytes : List Span → Type 0
 HaveBytes spans = All (λ span. 0 < span.bytes) spans

@@ -12,9 +12,9 @@ use Rattle.tree_walks.specs.Loops.{loop_ways}
 
 -- A step reads a variable, writes several at one moment, or is a call of a function of the source, which is passed over.
 pub data VariableStep : Type 0 where
-  Reads : (variable : ℕ) → VariableStep
-  Writes : (variables : List ℕ) → VariableStep
-  Calls : (function : ℕ) → VariableStep
+  ReadsVariable : (variable : ℕ) → VariableStep
+  WritesVariables : (variables : List ℕ) → VariableStep
+  PassesCall : (function : ℕ) → VariableStep
 
 -- A point is marked with the step that has just been taken, if there is one.
 abbrev pub VariablePoint : Type 1
@@ -36,18 +36,18 @@ uses_of_binary Both left right = in_turn left (one_of right no_step)
 uses_of_binary Either left right = in_turn left (one_of right no_step)
 uses_of_binary mark left right = in_turn left right
 
-abbrev pub reads : IrTarget → VariableWays
-reads (Variable object) = one_step (Reads object)
-reads target = no_step
+abbrev pub variable_read : IrTarget → VariableWays
+variable_read (Variable object) = one_step (ReadsVariable object)
+variable_read target = no_step
 
-abbrev pub writes : IrTarget → VariableWays
-writes (Variable object) = one_step (Writes (object ∷ []))
-writes target = no_step
+abbrev pub variable_write : IrTarget → VariableWays
+variable_write (Variable object) = one_step (WritesVariables (object ∷ []))
+variable_write target = no_step
 
 -- a compound assignment reads the old value, before its right side is evaluated
-abbrev pub reads_old : AssignMark → IrTarget → VariableWays
-reads_old assign.Plain target = no_step
-reads_old mark target = reads target
+abbrev pub old_value_read : AssignMark → IrTarget → VariableWays
+old_value_read assign.Plain target = no_step
+old_value_read mark target = variable_read target
 
 abbrev pub is_started : IrTrees → ℕ → Bool
 is_started end object = false
@@ -63,7 +63,7 @@ not_started starts object (suc count) =
 abbrev mutual
   pub uses_of : IrTree → VariableWays
   uses_of (Constant value) = no_step
-  uses_of (Read target) = in_turn (index_uses target) (reads target)
+  uses_of (Read target) = in_turn (index_uses target) (variable_read target)
   uses_of (Address target) = index_uses target
   uses_of (Operate site kind operands weight) = all_in_turn (uses_in operands)
   uses_of (Convert cast width part) = uses_of part
@@ -71,18 +71,18 @@ abbrev mutual
   uses_of (Invert part) = uses_of part
   uses_of (Binary mark left right) = uses_of_binary mark (uses_of left) (uses_of right)
   uses_of (Choose cond this other) = in_turn (uses_of cond) (one_of (uses_of this) (uses_of other))
-  uses_of (Call function args) = in_turn (all_in_turn (uses_in args)) (one_step (Calls function))
+  uses_of (Call function args) = in_turn (all_in_turn (uses_in args)) (one_step (PassesCall function))
   uses_of (ReadFlag word) = no_step
   uses_of Left = no_step
-  uses_of (Write target mark width site value) = in_turn (index_uses target) (in_turn (reads_old mark target) (in_turn (uses_of value) (writes target)))
-  uses_of (Step target up width site) = in_turn (index_uses target) (in_turn (reads target) (writes target))
+  uses_of (Write target mark width site value) = in_turn (index_uses target) (in_turn (old_value_read mark target) (in_turn (uses_of value) (variable_write target)))
+  uses_of (Step target up width site) = in_turn (index_uses target) (in_turn (variable_read target) (variable_write target))
   uses_of (WriteFlag value) = uses_of value
   uses_of (Out value) = uses_of value
   uses_of (AddCount weight) = no_step
-  uses_of (Start object value) = in_turn (uses_of value) (one_step (Writes (object ∷ [])))
+  uses_of (Start object value) = in_turn (uses_of value) (one_step (WritesVariables (object ∷ [])))
   uses_of Empty = no_step
   uses_of (Block first objects starts parts) =
-      in_turn (one_step (Writes (not_started starts first objects))) (in_turn (all_in_turn (uses_in starts)) (all_in_turn (uses_in parts)))
+      in_turn (one_step (WritesVariables (not_started starts first objects))) (in_turn (all_in_turn (uses_in starts)) (all_in_turn (uses_in parts)))
   uses_of (If cond this other) = in_turn (uses_of cond) (one_of (uses_of this) (all_in_turn (uses_in other)))
   uses_of (Loop cut tests_first first cond last body) =
       in_turn (all_in_turn (uses_in first)) (loop_ways tests_first (all_in_turn (uses_in cond)) (all_in_turn (uses_in last)) (uses_of body))
@@ -101,7 +101,7 @@ abbrev mutual
 
 -- entering a function writes its parameters
 abbrev pub uses_of_function : TreeFunction → VariableWays
-uses_of_function function = in_turn (one_step (Writes function.params)) (uses_of function.body)
+uses_of_function function = in_turn (one_step (WritesVariables function.params)) (uses_of function.body)
 
 abbrev pub points_where : Option TreeFunction → List VariablePoint
 points_where (Some function) = (uses_of_function function).points

@@ -5,8 +5,8 @@ ghost use Rattle.ir_arena.specs.Placed.{whole_of};
 ghost use Rattle.register_allocation.specs.Good.{IsGoodAssignment, AreAllSlots};
 
 use crate::home::Assign;
-use crate::spans::{all_fit, are_apart, spans};
-use crate::table::{are_full, table_of};
+use crate::spans::{all_lie_right, are_apart, spans};
+use crate::table::{are_full, room_table};
 use ir_arena::Ir;
 use sat_base::Memory;
 use std::alloc::Global;
@@ -22,12 +22,12 @@ pub fn check_assign(alloc: Global, ir: &Ir<'_>, assign: &Assign) -> Result<bool,
     if lists.len() != ir.functions.len() {
         return Ok(false);
     }
-    let table = table_of(alloc, objects, lists)?;
+    let table = room_table(alloc, objects, lists)?;
     let rooms = table.rooms.as_slice();
     if !are_full(lists, &table.counts) {
         return Ok(false);
     }
-    if !all_fit(rooms) {
+    if !all_lie_right(rooms) {
         return Ok(false);
     }
     let mut spans = spans(alloc, rooms)?;

@@ -5,8 +5,8 @@ ghost use Rattle.ir_arena.specs.Placed.{whole_of};
 ghost use Rattle.register_allocation.specs.Good.{IsGoodAssignment, AreAllSlots, slots_end};
 ghost use Rattle.register_allocation.specs.Laid.{AreEmpty, AddsHome, AddsSlot};
 
+use crate::claim::claim_of;
 use crate::home::{Assign, Home, Homes};
-use crate::need::need_of;
 use ir_arena::Ir;
 use operator_meaning::Object;
 use sat_base::Memory;
@@ -63,16 +63,16 @@ fn add_slot(objects: &[Object], number: u32, from: u32, lists: &mut [Homes]) -> 
     ensures count { length lists.new ≡ length lists.old }
     ensures slot { IfOk result (λ end. AddsSlot objects.now number from end lists.old lists.new) }
 {
-    let Some(need) = need_of(objects, number) else {
+    let Some(claim) = claim_of(objects, number) else {
         return Ok(from);
     };
-    let end = end_of(from, need.bytes())?;
-    add_home(lists, need.function, Home::Slot(from))?;
+    let end = slot_end_of(from, claim.bytes())?;
+    add_home(lists, claim.function, Home::Slot(from))?;
     Ok(end)
 }
 
 /// Where so many bytes end that start there.
-fn end_of(from: u32, bytes: u32) -> Result<u32, Memory>
+fn slot_end_of(from: u32, bytes: u32) -> Result<u32, Memory>
     ensures sum { IfOk result (λ end. end ≡ from + bytes) }
     ensures within { IfOk result (λ end. end ≤ slots_end) }
 {

@@ -2,7 +2,7 @@
 
 ghost use Rattle.std.specs.Prelude.{◌≡◌, ℕ, ◌↔◌, length, IfOk, IsTrue};
 ghost use Rattle.std.specs.List.{IsDistinct, list_all};
-ghost use Rattle.register_allocation.specs.Overlaps.{HaveBytes, fits, span_of_home, spans_of, precedes, overlaps};
+ghost use Rattle.register_allocation.specs.Overlaps.{HaveBytes, lies_right, span_of_home, spans_of, precedes, overlaps};
 
 use crate::home::Home;
 use crate::slots::SLOTS_END;
@@ -18,8 +18,8 @@ pub struct Span {
 }
 
 /// Whether the home of an object is a slot that lies right, if it has a home.
-fn fits(room: Room) -> bool
-    ensures { result ≡ fits room }
+fn lies_right(room: Room) -> bool
+    ensures { result ≡ lies_right room }
 {
     match room.home {
         None => true,
@@ -31,10 +31,10 @@ fn fits(room: Room) -> bool
 }
 
 /// Whether those of all objects do.
-pub fn all_fit(rooms: &[Room]) -> bool
-    ensures { result ≡ list_all fits rooms.now }
+pub fn all_lie_right(rooms: &[Room]) -> bool
+    ensures { result ≡ list_all lies_right rooms.now }
 {
-    rooms.iter().all(|room| fits(*room))
+    rooms.iter().all(|room| lies_right(*room))
 }
 
 /// The slot of an object, if it has one.

@@ -5,8 +5,8 @@ ghost use Rattle.register_allocation.specs.Homes.{home_of};
 ghost use Rattle.register_allocation.specs.Good.{slot_bytes};
 ghost use Rattle.register_allocation.specs.Tables.{AreRooms, AreCounts, AreFull};
 
+use crate::claim::claim_of;
 use crate::home::{Home, Homes};
-use crate::need::need_of;
 use crate::slots::numbered;
 use operator_meaning::Object;
 use sat_base::Memory;
@@ -24,7 +24,7 @@ pub struct Room {
 
 /// What the lists say, by the numbers of the objects.
 #[derive(Drop)]
-pub struct Table {
+pub struct RoomTable {
     pub rooms: Items<Room>,
     /// How many homes each list is to have.
     pub counts: Vec<usize>,
@@ -34,12 +34,12 @@ pub struct Table {
 pub fn rooms(alloc: Global, objects: &[Object], lists: &[Homes]) -> Result<Items<Room>, Memory>
     ensures { IfOk result (λ rooms. AreRooms objects.now lists.now rooms) }
 {
-    let table = table_of(alloc, objects, lists)?;
+    let table = room_table(alloc, objects, lists)?;
     Ok(table.rooms)
 }
 
 /// Walks over the objects.
-pub fn table_of(alloc: Global, objects: &[Object], lists: &[Homes]) -> Result<Table, Memory>
+pub fn room_table(alloc: Global, objects: &[Object], lists: &[Homes]) -> Result<RoomTable, Memory>
     ensures rooms { IfOk result (λ table. AreRooms objects.now lists.now table.rooms) }
     ensures count { IfOk result (λ table. length table.counts.items ≡ length lists.now) }
     ensures counts { IfOk result (λ table. AreCounts objects.now (length objects.now) table.counts.items) }
@@ -53,15 +53,15 @@ pub fn table_of(alloc: Global, objects: &[Object], lists: &[Homes]) -> Result<Ta
             bytes: slot_bytes(objects, number),
         })?;
     }
-    Ok(Table { rooms, counts })
+    Ok(RoomTable { rooms, counts })
 }
 
 /// The bytes that a slot of the object of this number has.
 fn slot_bytes(objects: &[Object], number: u32) -> u32
     ensures { result ≡ slot_bytes objects.now number }
 {
-    match need_of(objects, number) {
-        Some(need) => need.bytes(),
+    match claim_of(objects, number) {
+        Some(claim) => claim.bytes(),
         None => 0,
     }
 }
@@ -79,10 +79,10 @@ fn next_home(
     ensures same { length counts.new.items ≡ length counts.old.items }
     ensures counts { AreCounts objects.now (number + 1) counts.new.items }
 {
-    let Some(need) = need_of(objects, number) else {
+    let Some(claim) = claim_of(objects, number) else {
         return None;
     };
-    let function = need.function as usize;
+    let function = claim.function as usize;
     if function >= counts.len() {
         return None;
     }

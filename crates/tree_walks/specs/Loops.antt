@@ -1,7 +1,7 @@
 -- How a loop is gone through, at any number of turns. Its condition may go either way, also where it is missing.
 use Rattle.std.specs.Prelude.{ℕ, zero, suc, Bool, true, false}
 use Rattle.tree_walks.specs.Ways.{Way, nothing, never, Then, either, AfterBody}
-use Rattle.tree_walks.specs.Points.{Ways, joined, going_on}
+use Rattle.tree_walks.specs.Points.{Ways, points_of_both, points_onward}
 
 module _ {Step : Type 0} where
   -- what follows a turn of a loop that has some more of them at most: its last part, the condition, and then another
@@ -31,7 +31,7 @@ module _ {Step : Type 0} where
         record {
           whole = sometime (λ more. from_start tests_first more cond.whole last.whole body.whole);
           points =
-              joined (going_on (λ way. sometime (λ more. Then way (either nothing (turns more)))) cond.points)
-              (joined (going_on (λ way. sometime (λ more. AfterBody way (Then last.whole (tests more)))) body.points)
-              (going_on (λ way. sometime (λ more. Then way (tests more))) last.points));
+              points_of_both (points_onward (λ way. sometime (λ more. Then way (either nothing (turns more)))) cond.points)
+              (points_of_both (points_onward (λ way. sometime (λ more. AfterBody way (Then last.whole (tests more)))) body.points)
+              (points_onward (λ way. sometime (λ more. Then way (tests more))) last.points));
         }

@@ -23,21 +23,21 @@ module _ {Step Mark : Type 0} where
   marked_after mark ways = record { whole = ways.whole; points = record { mark = mark; onward = nothing } ∷ ways.points }
 
   -- the points of two parts
-  abbrev pub joined : List (Point Step Mark) → List (Point Step Mark) → List (Point Step Mark)
-  joined [] others = others
-  joined (point ∷ points) others = point ∷ joined points others
+  abbrev pub points_of_both : List (Point Step Mark) → List (Point Step Mark) → List (Point Step Mark)
+  points_of_both [] others = others
+  points_of_both (point ∷ points) others = point ∷ points_of_both points others
 
   -- the points of a part, as what follows the part goes on
-  abbrev pub going_on : (Way Step → Way Step) → List (Point Step Mark) → List (Point Step Mark)
-  going_on followed [] = []
-  going_on followed (point ∷ points) = record { mark = point.mark; onward = followed point.onward } ∷ going_on followed points
+  abbrev pub points_onward : (Way Step → Way Step) → List (Point Step Mark) → List (Point Step Mark)
+  points_onward followed [] = []
+  points_onward followed (point ∷ points) = record { mark = point.mark; onward = followed point.onward } ∷ points_onward followed points
 
   abbrev pub in_turn : Ways Step Mark → Ways Step Mark → Ways Step Mark
   in_turn first second =
-      record { whole = Then first.whole second.whole; points = joined (going_on (λ way. Then way second.whole) first.points) second.points }
+      record { whole = Then first.whole second.whole; points = points_of_both (points_onward (λ way. Then way second.whole) first.points) second.points }
 
   abbrev pub one_of : Ways Step Mark → Ways Step Mark → Ways Step Mark
-  one_of this other = record { whole = either this.whole other.whole; points = joined this.points other.points }
+  one_of this other = record { whole = either this.whole other.whole; points = points_of_both this.points other.points }
 
   abbrev pub all_in_turn : List (Ways Step Mark) → Ways Step Mark
   all_in_turn [] = without_points nothing

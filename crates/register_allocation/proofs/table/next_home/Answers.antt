@@ -6,14 +6,14 @@ use Rattle.register_allocation.proofs.table.next_home.Goals as goal
 
 pub overflow_add-place : goal.overflow_add-place
 overflow_add-place c =
-    let low : c.in-Some.need.function < length c.args.counts.now.items = omega (arith, c.len.ensures) in
-    let count = get_or_default_zero c.args.counts.now.items c.in-Some.need.function c.index-place.result.now low in
-    omega (arith, count, c.index-place.ensures, c.requires.counts c.in-Some.need.function low, homes-few c.args.objects.now c.in-Some.need.function c.args.number, c.ranges.number.fits)
+    let low : c.in-Some.claim.function < length c.args.counts.now.items = omega (arith, c.len.ensures) in
+    let count = get_or_default_zero c.args.counts.now.items c.in-Some.claim.function c.index-place.result.now low in
+    omega (arith, count, c.index-place.ensures, c.requires.counts c.in-Some.claim.function low, homes-few c.args.objects.now c.in-Some.claim.function c.args.number, c.ranges.number.fits)
 
 pub returns-clause-home : goal.returns-clause-home
 returns-clause-home c =
-    let low : c.in-Some.need.function < length c.args.counts.now.items = omega (arith, c.len.ensures) in
-    let place : c.index-place.result.now ≡ homes_before c.args.objects.now c.in-Some.need.function c.args.number =
-    c.index-place.ensures ∙ get_or_default_zero c.args.counts.now.items c.in-Some.need.function c.index-place.result.now low ∙ c.requires.counts c.in-Some.need.function low in
+    let low : c.in-Some.claim.function < length c.args.counts.now.items = omega (arith, c.len.ensures) in
+    let place : c.index-place.result.now ≡ homes_before c.args.objects.now c.in-Some.claim.function c.args.number =
+    c.index-place.ensures ∙ get_or_default_zero c.args.counts.now.items c.in-Some.claim.function c.index-place.result.now low ∙ c.requires.counts c.in-Some.claim.function low in
     c.copied.ensures ∙ c.get.ensures.value
-    ∙ home-there c.args.objects.now c.args.lists.now c.args.number c.in-Some.need c.index-lists-function.result c.index-place.result.now c.in-Some.ensures (omega (arith, c.requires.same)) c.index-lists-function.is place
+    ∙ home-there c.args.objects.now c.args.lists.now c.args.number c.in-Some.claim c.index-lists-function.result c.index-place.result.now c.in-Some.ensures (omega (arith, c.requires.same)) c.index-lists-function.is place

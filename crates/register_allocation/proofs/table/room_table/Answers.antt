@@ -4,7 +4,7 @@ use Rattle.std.proofs.lemmas.List.{length-append}
 use Rattle.register_allocation.specs.declared.table.Room.{Room}
 use Rattle.register_allocation.specs.Tables.{room_of}
 use Rattle.register_allocation.proofs.Tables.{each-more}
-use Rattle.register_allocation.proofs.table.table_of.Goals as goal
+use Rattle.register_allocation.proofs.table.room_table.Goals as goal
 
 pub loop-number-preserved : goal.loop-number-preserved
 loop-number-preserved c =

@@ -1,7 +1,7 @@
 use Rattle.std.proofs.Common.{◌≡◌, ℕ, ◌<◌, length}
 use Rattle.std.specs.Prelude.{Some, slice_get}
 use Rattle.register_allocation.specs.Tables.{AreCounts, room_of}
-use Rattle.register_allocation.proofs.table.table_of.Given as goal
+use Rattle.register_allocation.proofs.table.room_table.Given as goal
 
 abbrev pub invariant-loop-number : goal.invariant-loop-number
 invariant-loop-number l = record {
