@@ -1,0 +1,10 @@
+pub mod Good
+pub mod Homes
+pub mod Claims
+pub mod Live
+pub mod Steps
+pub mod Laws
+pub mod Collected
+pub mod Laid
+pub mod Tables
+pub mod Overlaps
