@@ -1,0 +1,53 @@
+-- Which lines of what is lawful hold of every source without a fault by what its names stand for.
+use Rattle.std.specs.Prelude.{◌≡◌, ◌≤◌, true, length}
+use Rattle.std.specs.List.{list_all, list_any}
+use Rattle.sat_base.specs.declared.limits.TheConstants.{CONSTANTS}
+use Rattle.c_tree.specs.declared.program.Program.{Program}
+use Rattle.c_typed.specs.declared.typed.Typed.{Typed}
+use Rattle.c_types.specs.Tied.{IsTyped}
+use Rattle.lawful_sources.specs.Lawful.{is_good_main, Everywhere}
+use Rattle.lawful_names.specs.Spelled.{AllSpelled}
+use Rattle.lawful_sources.specs.Objects.{has_shape}
+use Rattle.lawful_sources.specs.Rows.{object_exists, place_fits, function_exists, const_is_kept, width_agrees, arguments_are_counted, argument_fits, value_is_given, callee_is_defined, main_is_not_called, conversion_stands}
+
+abbrev pub ObjectsExist : Type 0
+ObjectsExist = (program : Program) (typed : Typed) → IsTyped program typed → Everywhere typed (object_exists typed)
+
+abbrev pub FunctionsExist : Type 0
+FunctionsExist = (program : Program) (typed : Typed) → IsTyped program typed → Everywhere typed (function_exists typed)
+
+abbrev pub ConstIsKept : Type 0
+ConstIsKept = (program : Program) (typed : Typed) → IsTyped program typed → Everywhere typed (const_is_kept typed)
+
+abbrev pub WidthsAgree : Type 0
+WidthsAgree = (program : Program) (typed : Typed) → IsTyped program typed → Everywhere typed (width_agrees typed)
+
+abbrev pub ArgumentsAreCounted : Type 0
+ArgumentsAreCounted = (program : Program) (typed : Typed) → IsTyped program typed → Everywhere typed (arguments_are_counted typed)
+
+abbrev pub ArgumentsFit : Type 0
+ArgumentsFit = (program : Program) (typed : Typed) → IsTyped program typed → Everywhere typed argument_fits
+
+abbrev pub ValuesAreGiven : Type 0
+ValuesAreGiven = (program : Program) (typed : Typed) → IsTyped program typed → Everywhere typed (value_is_given typed)
+
+abbrev pub CalleesAreDefined : Type 0
+CalleesAreDefined = (program : Program) (typed : Typed) → IsTyped program typed → Everywhere typed (callee_is_defined typed)
+
+abbrev pub MainIsNotCalled : Type 0
+MainIsNotCalled = (program : Program) (typed : Typed) → IsTyped program typed → Everywhere typed (main_is_not_called typed)
+
+abbrev pub ConversionsStand : Type 0
+ConversionsStand = (program : Program) (typed : Typed) → IsTyped program typed → Everywhere typed conversion_stands
+
+abbrev pub HasMain : Type 0
+HasMain = (program : Program) (typed : Typed) → IsTyped program typed → list_any is_good_main typed.functions ≡ true
+
+abbrev pub ConstantsAreFew : Type 0
+ConstantsAreFew = (program : Program) (typed : Typed) → IsTyped program typed → length typed.constants ≤ CONSTANTS
+
+abbrev pub PlacesFit : Type 0
+PlacesFit = (program : Program) (typed : Typed) → AllSpelled program → IsTyped program typed → Everywhere typed (place_fits typed)
+
+abbrev pub ObjectsHaveShapes : Type 0
+ObjectsHaveShapes = (program : Program) (typed : Typed) → AllSpelled program → IsTyped program typed → list_all has_shape typed.objects ≡ true

@@ -1,0 +1,10 @@
+// What names stand for in a source without a fault is what they are tied to: laws alone, one for each line of what is
+// lawful that follows from it.
+#![tactic(auto)]
+
+mod laws;
+
+pub use laws::{
+    arguments_are_counted, arguments_fit, callees_are_defined, const_is_kept, constants_are_few, conversions_stand,
+    functions_exist, has_main, main_is_not_called, objects_exist, objects_have_shapes, places_fit, values_are_given, widths_agree,
+};
