@@ -120,7 +120,7 @@ some-same x y p = cc
 
 -- ---- the parameters of a definition
 
-named-objects : (here : Here) (one : Object) (name : Option Named) → (after_named here one name).objects ≡ here.objects ++ one ∷ []
+pub named-objects : (here : Here) (one : Object) (name : Option Named) → (after_named here one name).objects ≡ here.objects ++ one ∷ []
 named-objects here one None = refl
 named-objects here one (Some name) = refl
 

@@ -22,3 +22,6 @@ pub mod Constants
 pub mod Shapes
 pub mod Reaches
 pub mod Objects
+pub mod Parameters
+pub mod Spent
+pub mod Few

@@ -56,7 +56,7 @@ use Rattle.lawful_names.proofs.Within.{Within, within-more, stands-last, objects
 
 -- ---- what holds of all functions
 
-added-or : (holds : TypedFunction → Bool) (number : Option ℕ) (functions : List TypedFunction) (g : Function) → holds (declared g) ≡ true → list_all holds functions ≡ true → list_all holds (functions_or number functions g) ≡ true
+pub added-or : (holds : TypedFunction → Bool) (number : Option ℕ) (functions : List TypedFunction) (g : Function) → holds (declared g) ≡ true → list_all holds functions ≡ true → list_all holds (functions_or number functions g) ≡ true
 added-or holds None functions g bare p = list_all-append holds functions (declared g ∷ []) ∙ both _ _ p (both _ _ bare refl)
 added-or holds (Some number) functions g bare p = p
 
@@ -65,7 +65,7 @@ set-holds holds [] number one q p = refl
 set-holds holds (f ∷ functions) zero one q p = both (holds one) _ q (right (holds f) _ p)
 set-holds holds (f ∷ functions) (suc number) one q p = both (holds f) _ (left (holds f) _ p) (set-holds holds functions number one q (right (holds f) _ p))
 
-if-holds : (holds : TypedFunction → Bool) (test : Bool) (functions : List TypedFunction) (number : ℕ) (one : TypedFunction) → holds one ≡ true → list_all holds functions ≡ true
+pub if-holds : (holds : TypedFunction → Bool) (test : Bool) (functions : List TypedFunction) (number : ℕ) (one : TypedFunction) → holds one ≡ true → list_all holds functions ≡ true
     → list_all holds (if test then slice_set functions number one else functions) ≡ true
 if-holds holds true functions number one q p = set-holds holds functions number one q p
 if-holds holds false functions number one q p = p

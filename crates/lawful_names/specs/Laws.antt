@@ -1,13 +1,13 @@
 -- Which lines of what is lawful hold of every source without a fault by what its names stand for.
 use Rattle.std.specs.Prelude.{◌≡◌, ◌≤◌, true, length}
 use Rattle.std.specs.List.{list_all, list_any}
-use Rattle.sat_base.specs.declared.limits.TheConstants.{CONSTANTS}
+use Rattle.sat_base.specs.declared.limits.TheConstants.{CONSTANTS, FUNCTIONS}
 use Rattle.c_tree.specs.declared.program.Program.{Program}
 use Rattle.c_typed.specs.declared.typed.Typed.{Typed}
 use Rattle.c_types.specs.Tied.{IsTyped}
 use Rattle.lawful_sources.specs.Lawful.{is_good_main, Everywhere}
 use Rattle.lawful_names.specs.Spelled.{AllSpelled}
-use Rattle.lawful_sources.specs.Objects.{has_shape}
+use Rattle.lawful_sources.specs.Objects.{has_shape, has_parameters}
 use Rattle.lawful_sources.specs.Rows.{object_exists, place_fits, function_exists, const_is_kept, width_agrees, arguments_are_counted, argument_fits, value_is_given, callee_is_defined, main_is_not_called, conversion_stands}
 
 abbrev pub ObjectsExist : Type 0
@@ -51,3 +51,9 @@ PlacesFit = (program : Program) (typed : Typed) → AllSpelled program → IsTyp
 
 abbrev pub ObjectsHaveShapes : Type 0
 ObjectsHaveShapes = (program : Program) (typed : Typed) → AllSpelled program → IsTyped program typed → list_all has_shape typed.objects ≡ true
+
+abbrev pub ParametersAreObjects : Type 0
+ParametersAreObjects = (program : Program) (typed : Typed) → IsTyped program typed → list_all (has_parameters typed) typed.functions ≡ true
+
+abbrev pub FunctionsAreFew : Type 0
+FunctionsAreFew = (program : Program) (typed : Typed) → IsTyped program typed → length typed.functions ≤ FUNCTIONS

@@ -1,6 +1,6 @@
 // Lines of what is lawful that hold of every source without a fault by what its names stand for.
 
-ghost use Rattle.lawful_names.specs.Laws.{ArgumentsAreCounted, ArgumentsFit, CalleesAreDefined, ConstIsKept, ConstantsAreFew, ConversionsStand, FunctionsExist, HasMain, MainIsNotCalled, ObjectsExist, ObjectsHaveShapes, PlacesFit, ValuesAreGiven, WidthsAgree};
+ghost use Rattle.lawful_names.specs.Laws.{ArgumentsAreCounted, ArgumentsFit, CalleesAreDefined, ConstIsKept, ConstantsAreFew, ConversionsStand, FunctionsAreFew, FunctionsExist, HasMain, MainIsNotCalled, ObjectsExist, ObjectsHaveShapes, ParametersAreObjects, PlacesFit, ValuesAreGiven, WidthsAgree};
 
 /// Each object that is named is one of the source's own.
 pub fn objects_exist()
@@ -70,4 +70,14 @@ pub fn places_fit()
 /// A missing dimension is 0, and only arrays have any, where the grammar allows the source.
 pub fn objects_have_shapes()
     ensures { ObjectsHaveShapes }
+{}
+
+/// The parameters of a function are objects that are parameters.
+pub fn parameters_are_objects()
+    ensures { ParametersAreObjects }
+{}
+
+/// The functions are few.
+pub fn functions_are_few()
+    ensures { FunctionsAreFew }
 {}
