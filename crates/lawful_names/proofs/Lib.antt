@@ -25,3 +25,5 @@ pub mod Objects
 pub mod Parameters
 pub mod Spent
 pub mod Few
+pub mod Totals
+pub mod Measured
