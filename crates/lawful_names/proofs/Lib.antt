@@ -27,3 +27,5 @@ pub mod Spent
 pub mod Few
 pub mod Totals
 pub mod Measured
+pub mod MeasuredItems
+pub mod Owners

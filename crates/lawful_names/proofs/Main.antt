@@ -23,6 +23,7 @@ use Rattle.c_seen.specs.Sources.{functions_after, seen_in_items, seen_of, end_of
 use Rattle.c_faults.specs.Rows.{at_if}
 use Rattle.c_types.specs.Sources.{Source, number_of, after_function, after_item}
 use Rattle.c_types.specs.Tied.{IsTyped}
+use Rattle.lawful_sources.specs.Objects.{is_complete}
 use Rattle.lawful_sources.specs.Lawful.{is_not_16, is_good_main}
 use Rattle.lawful_sources.proofs.Passing.{Each}
 use Rattle.lawful_laws.proofs.Functions.{both, left, right}
@@ -91,19 +92,36 @@ good-main source items g item number at p complete f =
     (ap is_not_16 (f.gives ∙ ap (λ (d : Function). d.gives) is) ∙ wide g.gives (right (is_empty g.params) _ rest)))))
 
 module _ (source : Typed) (items : List Item) (sound : Seen → Bool) (clean : (s : Seen) → sound s ≡ true → Clean s) where
+  pub own-function : (s : Source) (names : Names) (before : List (Known Declaration)) (item : ℕ) (g : Function) (rest : List Item) → Reached source items sound clean s names before item (items_of.Function g ∷ rest)
+      → IsFunction source items g.name.name item (number_of s g)
+  own-function s names before item g rest r =
+      let own : Names = seen_sources.after_function names item g in
+      let after : List (Known Declaration) = functions_after names.items before item (items_of.Function g) in
+      let t : Steps source items sound clean s names before item g = steps source items sound clean s names before item g rest r in
+      at-end source items sound clean (after_function s item g) own after (item + 1) rest (next-reached source items sound clean s names before item (items_of.Function g) rest r) g.name.name (number_of s g) item g t.at
+      (function-own source items sound clean s names before item g rest r)
+
+  pub own-defined : (s : Source) (names : Names) (before : List (Known Declaration)) (item : ℕ) (g : Function) (rest : List Item) → Reached source items sound clean s names before item (items_of.Function g ∷ rest) → is_some g.body ≡ true
+      → is_defined (functions_of items) g.name.name ≡ true
+  own-defined s names before item g rest r body =
+      let next : Reached source items sound clean (after_function s item g) (seen_sources.after_function names item g) (functions_after names.items before item (items_of.Function g)) (item + 1) rest =
+      next-reached source items sound clean s names before item (items_of.Function g) rest r in
+      ap (λ (l : List (Known Declaration)). is_defined l g.name.name) next.declarations
+      ∙ stays items g.name.name (functions_after names.items before item (items_of.Function g)) (item + 1) rest (defined-here names.items g before item body)
+
+  -- a function with a body has it at the end
+  pub own-complete : (s : Source) (names : Names) (before : List (Known Declaration)) (item : ℕ) (g : Function) (rest : List Item) → Reached source items sound clean s names before item (items_of.Function g ∷ rest) → is_some g.body ≡ true
+      → is_complete (slice_get source.functions (number_of s g)) ≡ true
+  own-complete s names before item g rest r body =
+      let f : IsFunction source items g.name.name item (number_of s g) = own-function s names before item g rest r in
+      ap is_complete f.stands ∙ f.defined ∙ own-defined s names before item g rest r body
+
   main-at : (s : Source) (names : Names) (before : List (Known Declaration)) (item : ℕ) (g : Function) (rest : List Item) → Reached source items sound clean s names before item (items_of.Function g ∷ rest)
       → seen_sources.is_good_main (items_of.Function g) ≡ true → list_any is_good_main source.functions ≡ true
   main-at s names before item g rest r p =
-      let own : Names = seen_sources.after_function names item g in
-      let after : List (Known Declaration) = functions_after names.items before item (items_of.Function g) in
-      let next : Reached source items sound clean (after_function s item g) own after (item + 1) rest = next-reached source items sound clean s names before item (items_of.Function g) rest r in
       let t : Steps source items sound clean s names before item g = steps source items sound clean s names before item g rest r in
-      let f : IsFunction source items g.name.name item (number_of s g) =
-      at-end source items sound clean (after_function s item g) own after (item + 1) rest next g.name.name (number_of s g) item g t.at (function-own source items sound clean s names before item g rest r) in
       let body : is_some g.body ≡ true = left (is_some g.body) _ (right (bytes_eq g.name.name (codes "main")) _ p) in
-      let complete : is_defined (functions_of items) g.name.name ≡ true =
-      ap (λ (l : List (Known Declaration)). is_defined l g.name.name) next.declarations ∙ stays items g.name.name after (item + 1) rest (defined-here names.items g before item body) in
-      good-main source items g item (number_of s g) t.at p complete f
+      good-main source items g item (number_of s g) t.at p (own-defined s names before item g rest r body) (own-function s names before item g rest r)
 
   main-or : (s : Source) (names : Names) (before : List (Known Declaration)) (item : ℕ) (g : Function) (rest : List Item) → Reached source items sound clean s names before item (items_of.Function g ∷ rest)
       → (good : Bool) → seen_sources.is_good_main (items_of.Function g) ≡ good → (later : Bool) → (good || later) ≡ true → (later ≡ true → list_any is_good_main source.functions ≡ true) → list_any is_good_main source.functions ≡ true

@@ -7,14 +7,13 @@ use Rattle.c_seen.specs.declared.seen.Seen.{Seen}
 use Rattle.c_faults.specs.declared.limits.Quantity.{Quantity}
 use Rattle.c_faults.specs.Limits.{amount, place, left_at, past_or, first_past}
 use Rattle.lawful_names.proofs.Clean.{never}
+use Rattle.lawful_names.proofs.Totals.{total, total-append}
 
 abbrev pub spent : Quantity → List Seen → ℕ
-spent quantity [] = 0
-spent quantity (s ∷ rest) = amount quantity s + spent quantity rest
+spent quantity list = total (amount quantity) list
 
 pub spent-append : (quantity : Quantity) (xs ys : List Seen) → spent quantity (xs ++ ys) ≡ spent quantity xs + spent quantity ys
-spent-append quantity [] ys = omega arith
-spent-append quantity (s ∷ xs) ys = omega (arith, spent-append quantity xs ys)
+spent-append quantity xs ys = total-append (amount quantity) xs ys
 
 past-by : (at : At) (left cost more : ℕ) (over : Bool) → nat_lt left cost ≡ over → (later : ℕ → Option At) → ((still : ℕ) → later still ≡ None → more ≤ still) → past_or at (if over then None else Some (left - cost)) later ≡ None → cost + more ≤ left
 past-by at left cost more true is later few p = absurd (never at p)

@@ -7,7 +7,7 @@ use Rattle.c_typed.specs.declared.typed.Typed.{Typed}
 use Rattle.c_types.specs.Tied.{IsTyped}
 use Rattle.lawful_sources.specs.Lawful.{is_good_main, Everywhere}
 use Rattle.lawful_names.specs.Spelled.{AllSpelled}
-use Rattle.lawful_sources.specs.Objects.{has_shape, has_parameters}
+use Rattle.lawful_sources.specs.Objects.{has_shape, has_function, has_parameters}
 use Rattle.lawful_sources.specs.Rows.{object_exists, place_fits, function_exists, const_is_kept, width_agrees, arguments_are_counted, argument_fits, value_is_given, callee_is_defined, main_is_not_called, conversion_stands}
 
 abbrev pub ObjectsExist : Type 0
@@ -57,3 +57,6 @@ ParametersAreObjects = (program : Program) (typed : Typed) → IsTyped program t
 
 abbrev pub FunctionsAreFew : Type 0
 FunctionsAreFew = (program : Program) (typed : Typed) → IsTyped program typed → length typed.functions ≤ FUNCTIONS
+
+abbrev pub ObjectsHaveFunctions : Type 0
+ObjectsHaveFunctions = (program : Program) (typed : Typed) → IsTyped program typed → list_all (λ object. has_function typed object object.function) typed.objects ≡ true
