@@ -29,3 +29,4 @@ pub mod Totals
 pub mod Measured
 pub mod MeasuredItems
 pub mod Owners
+pub mod Data

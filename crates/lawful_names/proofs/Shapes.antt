@@ -50,14 +50,14 @@ shows kinds.View view rows columns = view && (rows == 0 && columns == 0)
 abbrev pub Shaped : Kind → Object → Type 0
 Shaped kind one = shows kind one.view one.rows one.columns ≡ true
 
-abbrev kind_by : Bool → Bool → Option Dim → Kind
+abbrev pub kind_by : Bool → Bool → Option Dim → Kind
 kind_by pointer array cols = if pointer then kinds.View else (if not array then kinds.Scalar else (if is_none cols then kinds.Array else kinds.Table))
 
 positive : (n : ℕ) → not (suc n == 0) ≡ true
 positive n = grind (arith, nat_tests)
 
 -- a product that is not 0
-factors : (rows columns : ℕ) → not (rows * columns == 0) ≡ true → (not (rows == 0) && not (columns == 0)) ≡ true
+pub factors : (rows columns : ℕ) → not (rows * columns == 0) ≡ true → (not (rows == 0) && not (columns == 0)) ≡ true
 factors zero columns p = let none : 0 * columns ≡ 0 = omega arith in let same : not (0 == 0) ≡ true = subst (λ (n : ℕ). not (n == 0) ≡ true) none p in cc
 factors (suc rows) zero p = let none : suc rows * 0 ≡ 0 = omega arith in let same : not (0 == 0) ≡ true = subst (λ (n : ℕ). not (n == 0) ≡ true) none p in cc
 factors (suc rows) (suc columns) p = both (not (suc rows == 0)) _ (positive rows) (positive columns)
@@ -79,7 +79,7 @@ declared-shows false false cols rows is p = refl
 declared-shows false true None rows is p = both _ true p refl
 declared-shows false true (Some dim) rows is p = table-elements rows dim p
 
-itself : (a b : Bool) → (not a && b) ≡ (not a && (not a && b))
+pub itself : (a b : Bool) → (not a && b) ≡ (not a && (not a && b))
 itself true b = refl
 itself false b = refl
 

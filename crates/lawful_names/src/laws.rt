@@ -1,6 +1,6 @@
 // Lines of what is lawful that hold of every source without a fault by what its names stand for.
 
-ghost use Rattle.lawful_names.specs.Laws.{ArgumentsAreCounted, ArgumentsFit, CalleesAreDefined, ConstIsKept, ConstantsAreFew, ConversionsStand, FunctionsAreFew, FunctionsExist, HasMain, MainIsNotCalled, ObjectsExist, ObjectsHaveFunctions, ObjectsHaveShapes, ParametersAreObjects, PlacesFit, ValuesAreGiven, WidthsAgree};
+ghost use Rattle.lawful_names.specs.Laws.{ArgumentsAreCounted, ArgumentsFit, CalleesAreDefined, ConstIsKept, ConstantsAreFew, ConversionsStand, DataAreFew, FunctionsAreFew, FunctionsExist, HasMain, MainIsNotCalled, ObjectsExist, ObjectsHaveFunctions, ObjectsHaveShapes, ParametersAreObjects, PlacesFit, ValuesAreGiven, WidthsAgree};
 
 /// Each object that is named is one of the source's own.
 pub fn objects_exist()
@@ -85,4 +85,9 @@ pub fn functions_are_few()
 /// The function of an object has a definition, and an object of no function is static.
 pub fn objects_have_functions()
     ensures { ObjectsHaveFunctions }
+{}
+
+/// The bytes of the objects are few, where the grammar allows the source.
+pub fn data_are_few()
+    ensures { DataAreFew }
 {}
