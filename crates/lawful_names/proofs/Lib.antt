@@ -30,3 +30,4 @@ pub mod Measured
 pub mod MeasuredItems
 pub mod Owners
 pub mod Data
+pub mod Counted

@@ -1,11 +1,12 @@
 -- Which lines of what is lawful hold of every source without a fault by what its names stand for.
 use Rattle.std.specs.Prelude.{◌≡◌, ◌≤◌, true, length}
 use Rattle.std.specs.List.{list_all, list_any, sum_by}
-use Rattle.sat_base.specs.declared.limits.TheConstants.{CONSTANTS, FUNCTIONS, OBJECT_BYTES}
+use Rattle.sat_base.specs.declared.limits.TheConstants.{CONSTANTS, FUNCTIONS, OBJECT_BYTES, STATEMENTS}
 use Rattle.c_tree.specs.declared.program.Program.{Program}
 use Rattle.c_typed.specs.declared.typed.Typed.{Typed}
 use Rattle.c_types.specs.Tied.{IsTyped}
-use Rattle.lawful_sources.specs.Lawful.{bytes_of_object, is_good_main, Everywhere}
+use Rattle.lawful_sources.specs.Lawful.{bytes_of_object, count, is_statement, is_good_main, Everywhere}
+use Rattle.lawful_sources.specs.Statements.{in_source}
 use Rattle.lawful_names.specs.Spelled.{AllSpelled}
 use Rattle.lawful_sources.specs.Objects.{has_shape, has_function, has_parameters}
 use Rattle.lawful_sources.specs.Rows.{object_exists, place_fits, function_exists, const_is_kept, width_agrees, arguments_are_counted, argument_fits, value_is_given, callee_is_defined, main_is_not_called, conversion_stands}
@@ -63,3 +64,6 @@ ObjectsHaveFunctions = (program : Program) (typed : Typed) → IsTyped program t
 
 abbrev pub DataAreFew : Type 0
 DataAreFew = (program : Program) (typed : Typed) → AllSpelled program → IsTyped program typed → sum_by bytes_of_object typed.objects ≤ OBJECT_BYTES
+
+abbrev pub StatementsAreFew : Type 0
+StatementsAreFew = (program : Program) (typed : Typed) → IsTyped program typed → count is_statement (in_source typed) ≤ STATEMENTS

@@ -1,6 +1,6 @@
 // Lines of what is lawful that hold of every source without a fault by what its names stand for.
 
-ghost use Rattle.lawful_names.specs.Laws.{ArgumentsAreCounted, ArgumentsFit, CalleesAreDefined, ConstIsKept, ConstantsAreFew, ConversionsStand, DataAreFew, FunctionsAreFew, FunctionsExist, HasMain, MainIsNotCalled, ObjectsExist, ObjectsHaveFunctions, ObjectsHaveShapes, ParametersAreObjects, PlacesFit, ValuesAreGiven, WidthsAgree};
+ghost use Rattle.lawful_names.specs.Laws.{ArgumentsAreCounted, ArgumentsFit, CalleesAreDefined, ConstIsKept, ConstantsAreFew, ConversionsStand, DataAreFew, FunctionsAreFew, FunctionsExist, HasMain, MainIsNotCalled, ObjectsExist, ObjectsHaveFunctions, ObjectsHaveShapes, ParametersAreObjects, PlacesFit, StatementsAreFew, ValuesAreGiven, WidthsAgree};
 
 /// Each object that is named is one of the source's own.
 pub fn objects_exist()
@@ -90,4 +90,9 @@ pub fn objects_have_functions()
 /// The bytes of the objects are few, where the grammar allows the source.
 pub fn data_are_few()
     ensures { DataAreFew }
+{}
+
+/// The statements are few.
+pub fn statements_are_few()
+    ensures { StatementsAreFew }
 {}
