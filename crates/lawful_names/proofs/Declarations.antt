@@ -48,6 +48,8 @@ use Rattle.lawful_names.proofs.Agreement.{IsObject, Agrees, Near, is_pointing, n
 use Rattle.lawful_names.proofs.Clean.{Clean, never}
 use Rattle.lawful_names.proofs.Expressions.{argument-stands}
 use Rattle.lawful_names.proofs.Fitting.{Fits, wanted_for, asked_for}
+use Rattle.lawful_names.proofs.Starting.{is_one, ByValue, Starts}
+use Rattle.lawful_names.proofs.Values.{argument-values}
 use Rattle.lawful_names.proofs.Within.{Within, within-more, stands-last, starts-grow, lists-grow}
 
 -- the kind of each object that is declared rightly shows in it
@@ -129,34 +131,48 @@ asked-start false width is_const = refl
 module _ (source : Typed) (items : List Item) (Shaped : Kind → Object → Type 0) (sound : Seen → Bool) (clean : (s : Seen) → sound s ≡ true → Clean s) (shapes : Shapes Shaped sound)
     (test : Thing → Bool) (fits : Fits source items Shaped sound test) where
 
-  one-value : (names : Names) (here : Here) → Near source items Shaped names here → (decl : Decl) (function : ℕ) (exposed : Bool) (number : ℕ) → slice_get source.objects number ≡ Some (object_of decl (Some function) exposed)
-      → is_array decl ≡ false → (arg : Arg) → Each sound (seen_in_argument arg names (wanted_of (kind_of decl) decl))
+  one-value : (names : Names) (here : Here) → Near source items Shaped names here → (decl : Decl) (is_local : Bool) (function : ℕ) (exposed : Bool) (number : ℕ) → slice_get source.objects number ≡ Some (object_of decl (Some function) exposed)
+      → sound (seen.Object (object decl is_local)) ≡ true → is_array decl ≡ false → (arg : Arg) → decl.is_static ≡ false → decl.init ≡ init.One arg → Each sound (seen_in_argument arg names (wanted_of (kind_of decl) decl))
       → Each test (in_value_of source number (Some (argument_look source (tied_argument arg here (asked_by decl)).value)))
-  one-value names here near decl function exposed number stands single arg p =
+  one-value names here near decl is_local function exposed number stands good single arg automatic given_one p =
       let one : Object = object_of decl (Some function) exposed in
       let given : Each sound (seen_in_argument arg names (wanted_for (taken_by one))) = subst (λ (w : Wanted). Each sound (seen_in_argument arg names w)) (wanted-start decl decl.pointer (is_array decl) (is_none decl.cols) single) p in
       let passes : Each test (in_argument source (tied_argument arg here (asked_for (taken_by one))).value (Some (taken_by one))) = argument-stands source items Shaped sound clean test fits arg names here (taken_by one) near given in
+      let by : ByValue decl (argument_look source (tied_argument arg here (asked_by decl)).value).value = record {
+        automatic = automatic;
+        arg = arg;
+        given = given_one;
+        is = λ q. ap (λ (b : Bool). (argument_look source (tied_argument arg here (if b then asks.View else asks.Number decl.width)).value).value) q ∙ argument-values source arg here decl.width;
+      } in
+      let starts : Starts sound one (Some (argument_look source (tied_argument arg here (asked_by decl)).value).value) =
+      record { decl = decl; is_local = is_local; function = function; exposed = exposed; is = refl; sounds = good; starts = by } in
       joined test _ _ (subst (λ (a : Asked). Each test (in_argument source (tied_argument arg here a).value (taken_by_object (slice_get source.objects number)))) (sym (asked-start decl.pointer decl.width decl.is_const))
       (subst (λ (o : Option Taken). Each test (in_argument source (tied_argument arg here (asked_for (taken_by one))).value o)) (sym (ap taken_by_object stands)) passes))
-      (next test _ [] (fits.begins number one _ stands) (none test))
+      (next test _ [] (fits.begins number one _ stands starts) (none test))
 
-  start-stands : (names : Names) (here : Here) → Near source items Shaped names here → (decl : Decl) (function : ℕ) (exposed : Bool) (number : ℕ) → slice_get source.objects number ≡ Some (object_of decl (Some function) exposed)
-      → (static is_held : Bool) (start : Init) → at_if (bad_init decl is_held start) decl.name.at ≡ None → Each sound (initialiser names decl start)
+  bare-stands : (decl : Decl) (is_local : Bool) (function : ℕ) (exposed : Bool) (number : ℕ) → slice_get source.objects number ≡ Some (object_of decl (Some function) exposed) → sound (seen.Object (object decl is_local)) ≡ true
+      → (decl.is_static ≡ false → is_one decl.init ≡ false) → Each test (in_value_of source number None)
+  bare-stands decl is_local function exposed number stands good bare =
+      next test _ [] (fits.begins number _ None stands (record { decl = decl; is_local = is_local; function = function; exposed = exposed; is = refl; sounds = good; starts = bare })) (none test)
+
+  start-stands : (names : Names) (here : Here) → Near source items Shaped names here → (decl : Decl) (is_local : Bool) (function : ℕ) (exposed : Bool) (number : ℕ) → slice_get source.objects number ≡ Some (object_of decl (Some function) exposed)
+      → sound (seen.Object (object decl is_local)) ≡ true → (static : Bool) → decl.is_static ≡ static → (start : Init) → decl.init ≡ start → at_if (bad_init decl (is_static is_local decl) start) decl.name.at ≡ None → Each sound (initialiser names decl start)
       → Each test (in_value_of source number (option_map (argument_look source) (value_in static here (asked_by decl) start)))
-  start-stands names here near decl function exposed number stands true is_held start good p = next test _ [] (fits.begins number _ None stands) (none test)
-  start-stands names here near decl function exposed number stands false is_held init.Nothing good p = next test _ [] (fits.begins number _ None stands) (none test)
-  start-stands names here near decl function exposed number stands false is_held (init.One arg) good p =
-      one-value names here near decl function exposed number stands (no-array (is_array decl) _ decl.name.at good) arg p
-  start-stands names here near decl function exposed number stands false is_held (init.Flat values) good p = next test _ [] (fits.begins number _ None stands) (none test)
-  start-stands names here near decl function exposed number stands false is_held (init.Rows rows) good p = next test _ [] (fits.begins number _ None stands) (none test)
+  start-stands names here near decl is_local function exposed number stands good true held start is fine p = bare-stands decl is_local function exposed number stands good (λ q. let both : true ≡ false = sym held ∙ q in cc)
+  start-stands names here near decl is_local function exposed number stands good false held init.Nothing is fine p = bare-stands decl is_local function exposed number stands good (λ q. ap is_one is)
+  start-stands names here near decl is_local function exposed number stands good false held (init.One arg) is fine p =
+      one-value names here near decl is_local function exposed number stands good (no-array (is_array decl) _ decl.name.at fine) arg held is p
+  start-stands names here near decl is_local function exposed number stands good false held (init.Flat values) is fine p = bare-stands decl is_local function exposed number stands good (λ q. ap is_one is)
+  start-stands names here near decl is_local function exposed number stands good false held (init.Rows rows) is fine p = bare-stands decl is_local function exposed number stands good (λ q. ap is_one is)
 
   declared-stands : (names : Names) (here : Here) (depth : ℕ) (decl : Decl) (function : ℕ) → Near source items Shaped names here → Within (after_declared here (Some function) decl).objects source.objects
       → Each sound (seen_in_declared names depth decl) → Each test (in_start source (record { object = length here.objects; value = (start_value here decl).value }))
   declared-stands names here depth decl function near within p =
       let exposed : Bool = is_exposed here.exposed (length here.objects) in
-      let good : Clean (seen.Object (object decl (nat_lt 0 depth))) = clean _ (object-sound source items Shaped sound shapes names depth decl p) in
+      let sounds : sound (seen.Object (object decl (nat_lt 0 depth))) ≡ true = object-sound source items Shaped sound shapes names depth decl p in
+      let good : Clean (seen.Object (object decl (nat_lt 0 depth))) = clean _ sounds in
       subst (λ (v : Option TypedArg). Each test (in_value_of source (length here.objects) (option_map (argument_look source) v))) (sym (start-is here decl))
-      (start-stands names here near decl function exposed (length here.objects) (stands-last here.objects source.objects _ within) decl.is_static (is_static (nat_lt 0 depth) decl) decl.init good.initialiser
+      (start-stands names here near decl (nat_lt 0 depth) function exposed (length here.objects) (stands-last here.objects source.objects _ within) sounds decl.is_static refl decl.init refl good.initialiser
       (earlier sound _ _ (later sound (dimension names decl.cols) _ (later sound (dimension names decl.rows) _ p))))
 
   pub starts-stand : (names : Names) (here : Here) (depth function : ℕ) (decls : List Decl) → Near source items Shaped names here → Within (starts_of here function decls).after.objects source.objects

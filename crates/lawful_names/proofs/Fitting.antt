@@ -34,6 +34,7 @@ use Rattle.tied_names.specs.Ties.{object_by}
 use Rattle.lawful_sources.specs.Things.{Marks, Bare, Once, Twice, Star, Taken, Number, View, Use, Read, Written, Given, Thing, Place, Call, Argument, Mark, Conversion, Begins, Constant, Statement, Leave, Return}
 use Rattle.lawful_names.proofs.Agreement.{IsObject, IsFunction, Agrees, is_predefined}
 use Rattle.lawful_names.proofs.Clean.{Clean, never}
+use Rattle.lawful_names.proofs.Starting.{Starts}
 
 -- ---- what is done with a place, on both sides
 
@@ -100,7 +101,7 @@ module _ (source : Typed) (items : List Item) (Shaped : Kind → Object → Type
     pub marks : (at : At) (site : Option ℕ) (kind : Option SiteKind) → test (Mark at site kind) ≡ true
     pub conversions : (width : Option Width) → test (Conversion width width) ≡ true
     pub constants : (value : ℤ) → test (Constant value) ≡ true
-    pub begins : (number : ℕ) (object : Object) (value : Option (Option ℤ)) → slice_get source.objects number ≡ Some object → test (Begins number value) ≡ true
+    pub begins : (number : ℕ) (object : Object) (value : Option (Option ℤ)) → slice_get source.objects number ≡ Some object → Starts sound object value → test (Begins number value) ≡ true
     pub statements : test Statement ≡ true
     pub leaves : (in_loop : Bool) → test (Leave in_loop) ≡ true
     pub returns : (has_value gives : Bool) → test (Return has_value gives) ≡ true

@@ -31,3 +31,5 @@ pub mod MeasuredItems
 pub mod Owners
 pub mod Data
 pub mod Counted
+pub mod Values
+pub mod Starting

@@ -122,7 +122,7 @@ module _ (source : Typed) (items : List Item) (Shaped : Kind → Object → Type
     marks = λ at site kind. refl;
     conversions = λ width. refl;
     constants = λ value. refl;
-    begins = λ number object value stands. refl;
+    begins = λ number object value stands starts. refl;
     statements = refl;
     leaves = λ in_loop. refl;
     returns = λ has_value gives. refl;
@@ -139,7 +139,7 @@ module _ (source : Typed) (items : List Item) (Shaped : Kind → Object → Type
     marks = λ at site kind. refl;
     conversions = λ width. refl;
     constants = λ value. refl;
-    begins = λ number object value stands. refl;
+    begins = λ number object value stands starts. refl;
     statements = refl;
     leaves = λ in_loop. refl;
     returns = λ has_value gives. refl;

@@ -57,7 +57,7 @@ module _ (source : Typed) (items : List Item) (Shaped : Kind → Object → Type
     marks = λ at site kind. refl;
     conversions = λ width. refl;
     constants = λ value. refl;
-    begins = λ number object value stands. exists source.objects number object stands;
+    begins = λ number object value stands starts. exists source.objects number object stands;
     statements = refl;
     leaves = λ in_loop. refl;
     returns = λ has_value gives. refl;
@@ -73,7 +73,7 @@ module _ (source : Typed) (items : List Item) (Shaped : Kind → Object → Type
     marks = λ at site kind. refl;
     conversions = λ width. refl;
     constants = λ value. refl;
-    begins = λ number object value stands. refl;
+    begins = λ number object value stands starts. refl;
     statements = refl;
     leaves = λ in_loop. refl;
     returns = λ has_value gives. refl;
@@ -89,7 +89,7 @@ module _ (source : Typed) (items : List Item) (Shaped : Kind → Object → Type
     marks = λ at site kind. refl;
     conversions = λ width. refl;
     constants = λ value. refl;
-    begins = λ number object value stands. refl;
+    begins = λ number object value stands starts. refl;
     statements = refl;
     leaves = λ in_loop. refl;
     returns = λ has_value gives. refl;
@@ -105,7 +105,7 @@ module _ (source : Typed) (items : List Item) (Shaped : Kind → Object → Type
     marks = λ at site kind. refl;
     conversions = λ width. refl;
     constants = λ value. refl;
-    begins = λ number object value stands. refl;
+    begins = λ number object value stands starts. refl;
     statements = refl;
     leaves = λ in_loop. refl;
     returns = λ has_value gives. refl;
@@ -122,7 +122,7 @@ module _ (source : Typed) (items : List Item) (Shaped : Kind → Object → Type
     marks = λ at site kind. refl;
     conversions = λ width. refl;
     constants = λ value. refl;
-    begins = λ number object value stands. refl;
+    begins = λ number object value stands starts. refl;
     statements = refl;
     leaves = λ in_loop. refl;
     returns = λ has_value gives. refl;
@@ -138,7 +138,7 @@ module _ (source : Typed) (items : List Item) (Shaped : Kind → Object → Type
     marks = λ at site kind. refl;
     conversions = λ width. refl;
     constants = λ value. refl;
-    begins = λ number object value stands. refl;
+    begins = λ number object value stands starts. refl;
     statements = refl;
     leaves = λ in_loop. refl;
     returns = λ has_value gives. refl;
@@ -154,7 +154,7 @@ module _ (source : Typed) (items : List Item) (Shaped : Kind → Object → Type
     marks = λ at site kind. refl;
     conversions = λ width. refl;
     constants = λ value. refl;
-    begins = λ number object value stands. refl;
+    begins = λ number object value stands starts. refl;
     statements = refl;
     leaves = λ in_loop. refl;
     returns = λ has_value gives. refl;
@@ -170,7 +170,7 @@ module _ (source : Typed) (items : List Item) (Shaped : Kind → Object → Type
     marks = λ at site kind. refl;
     conversions = same-itself;
     constants = λ value. refl;
-    begins = λ number object value stands. refl;
+    begins = λ number object value stands starts. refl;
     statements = refl;
     leaves = λ in_loop. refl;
     returns = λ has_value gives. refl;
