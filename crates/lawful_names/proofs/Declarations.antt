@@ -114,7 +114,7 @@ start-by here decl false (init.Rows rows) = refl
 start-is : (here : Here) (decl : Decl) → (start_value here decl).value ≡ value_in decl.is_static here (asked_by decl) decl.init
 start-is here decl = start-by here decl decl.is_static decl.init
 
-no-array : (array rest : Bool) (at : At) → at_if (array || rest) at ≡ None → array ≡ false
+pub no-array : (array rest : Bool) (at : At) → at_if (array || rest) at ≡ None → array ≡ false
 no-array true rest at p = absurd (never at p)
 no-array false rest at p = refl
 

@@ -33,3 +33,4 @@ pub mod Data
 pub mod Counted
 pub mod Values
 pub mod Starting
+pub mod Begins

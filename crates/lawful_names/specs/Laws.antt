@@ -8,7 +8,7 @@ use Rattle.c_types.specs.Tied.{IsTyped}
 use Rattle.lawful_sources.specs.Lawful.{bytes_of_object, count, is_statement, is_good_main, Everywhere}
 use Rattle.lawful_sources.specs.Statements.{in_source}
 use Rattle.lawful_names.specs.Spelled.{AllSpelled}
-use Rattle.lawful_sources.specs.Objects.{has_shape, has_function, has_parameters}
+use Rattle.lawful_sources.specs.Objects.{begins_well, has_shape, has_function, has_parameters}
 use Rattle.lawful_sources.specs.Rows.{object_exists, place_fits, function_exists, const_is_kept, width_agrees, arguments_are_counted, argument_fits, value_is_given, callee_is_defined, main_is_not_called, conversion_stands}
 
 abbrev pub ObjectsExist : Type 0
@@ -67,3 +67,6 @@ DataAreFew = (program : Program) (typed : Typed) → AllSpelled program → IsTy
 
 abbrev pub StatementsAreFew : Type 0
 StatementsAreFew = (program : Program) (typed : Typed) → IsTyped program typed → count is_statement (in_source typed) ≤ STATEMENTS
+
+abbrev pub ObjectsBegin : Type 0
+ObjectsBegin = (program : Program) (typed : Typed) → AllSpelled program → IsTyped program typed → Everywhere typed (begins_well typed)
