@@ -34,3 +34,5 @@ pub mod Counted
 pub mod Values
 pub mod Starting
 pub mod Begins
+pub mod NoFunctions
+pub mod FewParameters

@@ -5,7 +5,7 @@ use Rattle.sat_base.specs.declared.limits.TheConstants.{CONSTANTS, FUNCTIONS, OB
 use Rattle.c_tree.specs.declared.program.Program.{Program}
 use Rattle.c_typed.specs.declared.typed.Typed.{Typed}
 use Rattle.c_types.specs.Tied.{IsTyped}
-use Rattle.lawful_sources.specs.Lawful.{bytes_of_object, count, is_statement, is_good_main, Everywhere}
+use Rattle.lawful_sources.specs.Lawful.{bytes_of_object, count, has_few_parameters, is_statement, is_good_main, Everywhere}
 use Rattle.lawful_sources.specs.Statements.{in_source}
 use Rattle.lawful_names.specs.Spelled.{AllSpelled}
 use Rattle.lawful_sources.specs.Objects.{begins_well, has_shape, has_function, has_parameters}
@@ -70,3 +70,6 @@ StatementsAreFew = (program : Program) (typed : Typed) → IsTyped program typed
 
 abbrev pub ObjectsBegin : Type 0
 ObjectsBegin = (program : Program) (typed : Typed) → AllSpelled program → IsTyped program typed → Everywhere typed (begins_well typed)
+
+abbrev pub ParametersAreFew : Type 0
+ParametersAreFew = (program : Program) (typed : Typed) → IsTyped program typed → list_all has_few_parameters typed.functions ≡ true

@@ -1,6 +1,6 @@
 // Lines of what is lawful that hold of every source without a fault by what its names stand for.
 
-ghost use Rattle.lawful_names.specs.Laws.{ArgumentsAreCounted, ArgumentsFit, CalleesAreDefined, ConstIsKept, ConstantsAreFew, ConversionsStand, DataAreFew, FunctionsAreFew, FunctionsExist, HasMain, MainIsNotCalled, ObjectsBegin, ObjectsExist, ObjectsHaveFunctions, ObjectsHaveShapes, ParametersAreObjects, PlacesFit, StatementsAreFew, ValuesAreGiven, WidthsAgree};
+ghost use Rattle.lawful_names.specs.Laws.{ArgumentsAreCounted, ArgumentsFit, CalleesAreDefined, ConstIsKept, ConstantsAreFew, ConversionsStand, DataAreFew, FunctionsAreFew, FunctionsExist, HasMain, MainIsNotCalled, ObjectsBegin, ObjectsExist, ObjectsHaveFunctions, ObjectsHaveShapes, ParametersAreFew, ParametersAreObjects, PlacesFit, StatementsAreFew, ValuesAreGiven, WidthsAgree};
 
 /// Each object that is named is one of the source's own.
 pub fn objects_exist()
@@ -100,4 +100,9 @@ pub fn statements_are_few()
 /// The objects of blocks begin well, where the grammar allows the source.
 pub fn objects_begin()
     ensures { ObjectsBegin }
+{}
+
+/// The parameters of each function are few.
+pub fn parameters_are_few()
+    ensures { ParametersAreFew }
 {}
