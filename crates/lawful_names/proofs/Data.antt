@@ -97,9 +97,11 @@ object-bytes decl is_local function exposed p =
 
 measures : (source : Typed) → Measures source is_sound bytes_of_object (amount of.Data)
 measures source = record {
-  inner = λ number whole decl exposed p. object-bytes decl true (Some number) exposed p;
+  of = λ number whole. record {
+    inner = λ decl exposed p. object-bytes decl true (Some number) exposed p;
+    parameters = λ param exposed p. parameter-bytes (is_some param.name) (is_view param) param.width (named-by (is_some param.name) param.type_at (sound-clean (seen.Parameter (parameter param true)) p).duplicate);
+  };
   outer = λ decl exposed p. object-bytes decl false None exposed p;
-  parameters = λ number whole param exposed p. parameter-bytes (is_some param.name) (is_view param) param.width (named-by (is_some param.name) param.type_at (sound-clean (seen.Parameter (parameter param true)) p).duplicate);
 }
 
 pub data-few : (program : Program) (source : Typed) → AllSpelled program → IsTyped program source → sum_by bytes_of_object source.objects ≤ OBJECT_BYTES

@@ -42,15 +42,15 @@ use Rattle.lawful_names.proofs.Spent.{spent, spent-append}
 
 -- ---- from one part of what is seen to the next
 
-record Remains (quantity : Quantity) (list : List Seen) : Type 0 where
-  still : ℕ
-  none_past : first_past quantity still list ≡ None
+pub record Remains (quantity : Quantity) (list : List Seen) : Type 0 where
+  pub still : ℕ
+  pub none_past : first_past quantity still list ≡ None
 
-past-later : (at : At) (left cost : ℕ) (over : Bool) (later : ℕ → Option At) → past_or at (if over then None else Some (left - cost)) later ≡ None → later (left - cost) ≡ None
+pub past-later : (at : At) (left cost : ℕ) (over : Bool) (later : ℕ → Option At) → past_or at (if over then None else Some (left - cost)) later ≡ None → later (left - cost) ≡ None
 past-later at left cost true later p = absurd (never at p)
 past-later at left cost false later p = p
 
-remains : (quantity : Quantity) (left : ℕ) (xs ys : List Seen) → first_past quantity left (xs ++ ys) ≡ None → Remains quantity ys
+pub remains : (quantity : Quantity) (left : ℕ) (xs ys : List Seen) → first_past quantity left (xs ++ ys) ≡ None → Remains quantity ys
 remains quantity left [] ys p = record { still = left; none_past = p }
 remains quantity left (s ∷ xs) ys p =
     remains quantity (left_at quantity left s - amount quantity s) xs ys
@@ -66,7 +66,7 @@ left-inner quantity left false inner p = refl
 left-inner quantity left true false p = refl
 
 -- where no function begins, all is counted together
-inner-spent : (quantity : Quantity) (most : ℕ) (xs ys : List Seen) → Each is_inner xs → first_past quantity most (xs ++ ys) ≡ None → spent quantity xs ≤ most
+pub inner-spent : (quantity : Quantity) (most : ℕ) (xs ys : List Seen) → Each is_inner xs → first_past quantity most (xs ++ ys) ≡ None → spent quantity xs ≤ most
 inner-spent quantity most [] ys inner p = omega arith
 inner-spent quantity most (s ∷ xs) ys inner p =
     let same : left_at quantity most s ≡ most = left-inner quantity most (is_by_function quantity) (is_function s) (left (is_inner s) (list_all is_inner xs) inner.all) in
@@ -81,7 +81,7 @@ name-inner : (names : Names) (name : Option Named) → Each is_inner (name_of_pa
 name-inner names None = none is_inner
 name-inner names (Some name) = next is_inner _ [] refl (none is_inner)
 
-parameters-inner : (names : Names) (defined : Bool) (params : List Param) → Each is_inner (seen_in_parameters names defined params)
+pub parameters-inner : (names : Names) (defined : Bool) (params : List Param) → Each is_inner (seen_in_parameters names defined params)
 parameters-inner names defined [] = none is_inner
 parameters-inner names defined (param ∷ params) =
     joined is_inner _ _ (joined is_inner _ _ (dimension-inner names param.dim) (next is_inner _ _ refl (name-inner names param.name))) (parameters-inner (scope.after_parameter names param) defined params)

@@ -36,3 +36,5 @@ pub mod Starting
 pub mod Begins
 pub mod NoFunctions
 pub mod FewParameters
+pub mod NoFunctionsInside
+pub mod OwnFew

@@ -3,10 +3,10 @@ use Rattle.std.proofs.Common.{◌≡◌, ℕ, ◌+◌, List, [], ◌∷◌, ◌+
 use Rattle.std.specs.Prelude.{ℤ, negsuc, Option, Some, None, not, if◌then◌else◌}
 use Rattle.std.specs.Ordering.{int_eq}
 use Rattle.sat_base.specs.declared.name.At.{At}
-use Rattle.c_tree.specs.declared.call.Arg.{Arg, map-Arg, roll-Arg}
+use Rattle.c_tree.specs.declared.call.Arg.{Arg, ind-Arg, map-Arg, roll-Arg}
 use Rattle.c_tree.specs.declared.call.Arg.TheOpen as node
 use Rattle.c_tree.specs.declared.call.Arg.TheVariants as arg
-use Rattle.c_tree.specs.declared.call.Call.{Call, roll-Call}
+use Rattle.c_tree.specs.declared.call.Call.{Call, ind-Call, roll-Call}
 use Rattle.c_tree.specs.declared.declaration.Dim.{Dim}
 use Rattle.c_tree.specs.declared.expression.BinaryMark.{BinaryMark}
 use Rattle.c_tree.specs.declared.expression.Expr.{Expr, roll-Expr}
@@ -14,7 +14,7 @@ use Rattle.c_tree.specs.declared.expression.ExprKind.{ExprKind, ind-ExprKind, ma
 use Rattle.c_tree.specs.declared.expression.ExprKind.TheVariants as kind
 use Rattle.c_tree.specs.declared.expression.UnaryMark.{UnaryMark}
 use Rattle.c_tree.specs.declared.expression.UnaryMark.TheVariants as unary
-use Rattle.c_tree.specs.declared.place.Place.{Place, map-Place, roll-Place}
+use Rattle.c_tree.specs.declared.place.Place.{Place, ind-Place, map-Place, roll-Place}
 use Rattle.c_tree.specs.declared.place.Place.TheVariants as places
 use Rattle.c_seen.specs.declared.seen.Meaning.{Meaning}
 use Rattle.c_seen.specs.declared.seen.Need.{Need}
@@ -22,7 +22,7 @@ use Rattle.c_seen.specs.declared.seen.Need.TheVariants as needs
 use Rattle.c_seen.specs.declared.seen.Seen.{Seen}
 use Rattle.c_seen.specs.declared.seen.Seen.TheVariants as seen
 use Rattle.c_seen.specs.declared.seen.Wanted.{Wanted}
-use Rattle.c_seen.specs.Declarations.{dimension}
+use Rattle.c_seen.specs.Declarations.{dimension, number_if_any}
 use Rattle.c_seen.specs.Expressions.{is_relation, no_view, opposite, constants_in, seen_in_expression, seen_in_kind, constant_of_kind, integer_of_kind, seen_in_place, seen_in_call, seen_in_argument, arguments_from}
 use Rattle.c_seen.specs.Meanings.{Names, meaning, wanted_at, need_of}
 use Rattle.c_seen.proofs.Expressions_seen as sees
@@ -148,11 +148,38 @@ kind-inner = ind-ExprKind ArgumentInner KindInner PlaceInner CallInner Expressio
     (λ x y is. subst (λ z. CallInner (roll-Call z)) is (on_call y))
     (λ x y is. subst (λ z. ExpressionInner (roll-Expr z)) is y.kind.1)
 
-by-length : (names : Names) (length : Option Expr) → Inner (dimension names (Some (record { at = record { tok = 0; pos = record { line = 0; col = 0 } }; length = length })))
-by-length names None = none is_inner
-by-length names (Some e) = expression e (kind-inner e.kind) names needs.Number
+pub place-inner : (x : Place) → PlaceInner x
+place-inner = ind-Place ArgumentInner KindInner PlaceInner CallInner ExpressionInner
+    (λ x y is. subst (λ z. ArgumentInner (roll-Arg z)) is (on_argument y))
+    (λ x y is. subst (λ z. KindInner (roll-ExprKind z)) is (on_kind y))
+    (λ x y is. subst (λ z. PlaceInner (roll-Place z)) is (on_place y))
+    (λ x y is. subst (λ z. CallInner (roll-Call z)) is (on_call y))
+    (λ x y is. subst (λ z. ExpressionInner (roll-Expr z)) is y.kind.1)
+
+pub call-inner : (x : Call) → CallInner x
+call-inner = ind-Call ArgumentInner KindInner PlaceInner CallInner ExpressionInner
+    (λ x y is. subst (λ z. ArgumentInner (roll-Arg z)) is (on_argument y))
+    (λ x y is. subst (λ z. KindInner (roll-ExprKind z)) is (on_kind y))
+    (λ x y is. subst (λ z. PlaceInner (roll-Place z)) is (on_place y))
+    (λ x y is. subst (λ z. CallInner (roll-Call z)) is (on_call y))
+    (λ x y is. subst (λ z. ExpressionInner (roll-Expr z)) is y.kind.1)
+
+pub argument-inner : (x : Arg) → ArgumentInner x
+argument-inner = ind-Arg ArgumentInner KindInner PlaceInner CallInner ExpressionInner
+    (λ x y is. subst (λ z. ArgumentInner (roll-Arg z)) is (on_argument y))
+    (λ x y is. subst (λ z. KindInner (roll-ExprKind z)) is (on_kind y))
+    (λ x y is. subst (λ z. PlaceInner (roll-Place z)) is (on_place y))
+    (λ x y is. subst (λ z. CallInner (roll-Call z)) is (on_call y))
+    (λ x y is. subst (λ z. ExpressionInner (roll-Expr z)) is y.kind.1)
+
+pub number-inner : (names : Names) (x : Expr) → Each is_inner (seen_in_expression x names needs.Number)
+number-inner names x = expression x (kind-inner x.kind) names needs.Number
+
+pub number-if-any : (names : Names) (value : Option Expr) → Each is_inner (number_if_any names value)
+number-if-any names None = none is_inner
+number-if-any names (Some x) = number-inner names x
 
 -- in a dimension
 pub dimension-inner : (names : Names) (dim : Option Dim) → Each is_inner (dimension names dim)
 dimension-inner names None = none is_inner
-dimension-inner names (Some dim) = by-length names dim.length
+dimension-inner names (Some dim) = number-if-any names dim.length

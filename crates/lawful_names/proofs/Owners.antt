@@ -19,22 +19,21 @@ use Rattle.lawful_names.proofs.Totals.{total, all-pass}
 abbrev failing : Typed → Object → ℕ
 failing source object = if has_function source object object.function then 0 else 1
 
-abbrev free : Seen → ℕ
+abbrev pub free : Seen → ℕ
 free s = 0
 
 none-failing : (passes : Bool) → passes ≡ true → (if passes then 0 else 1) ≤ 0
 none-failing true p = omega arith
 none-failing false p = cc
 
-no-cost : (list : List Seen) → total free list ≡ 0
+pub no-cost : (list : List Seen) → total free list ≡ 0
 no-cost [] = refl
 no-cost (s ∷ rest) = omega (arith, no-cost rest)
 
 measures : (source : Typed) → Measures source is_clean (failing source) free
 measures source = record {
-  inner = λ number whole decl exposed p. none-failing _ whole;
+  of = λ number whole. record { inner = λ decl exposed p. none-failing _ whole; parameters = λ param exposed p. none-failing _ whole };
   outer = λ decl exposed p. omega arith;
-  parameters = λ number whole param exposed p. none-failing _ whole;
 }
 
 pub objects-owned : (program : Program) (source : Typed) → IsTyped program source → list_all (λ object. has_function source object object.function) source.objects ≡ true
