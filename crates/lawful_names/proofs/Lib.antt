@@ -38,3 +38,4 @@ pub mod NoFunctions
 pub mod FewParameters
 pub mod NoFunctionsInside
 pub mod OwnFew
+pub mod OwnObjects

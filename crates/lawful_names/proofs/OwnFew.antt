@@ -81,7 +81,7 @@ pub record Counting (sound : Seen → Bool) (quantity : Quantity) (n : ℕ) (mea
 
 module _ (source : Typed) (items : List Item) (sound : Seen → Bool) (clean : (s : Seen) → sound s ≡ true → Clean s) (quantity : Quantity) (n : ℕ) (measure : Object → ℕ) (counting : Counting sound quantity n measure) where
   -- the objects of the function are few, and there are none before its definition
-  record Own (s : Source) : Type 0 where
+  pub record Own (s : Source) : Type 0 where
     few : total measure s.here.objects ≤ limit_of quantity
     fresh : is_complete (slice_get s.functions n) ≡ false → total measure s.here.objects ≤ 0
 

@@ -1,11 +1,11 @@
 -- Which lines of what is lawful hold of every source without a fault by what its names stand for.
-use Rattle.std.specs.Prelude.{◌≡◌, ◌≤◌, true, length}
+use Rattle.std.specs.Prelude.{◌≡◌, ℕ, ◌≤◌, true, length}
 use Rattle.std.specs.List.{list_all, list_any, sum_by}
-use Rattle.sat_base.specs.declared.limits.TheConstants.{CONSTANTS, FUNCTIONS, OBJECT_BYTES, STATEMENTS}
+use Rattle.sat_base.specs.declared.limits.TheConstants.{CONSTANTS, FUNCTIONS, OBJECT_BYTES, SCALARS, STATEMENTS, VIEWS}
 use Rattle.c_tree.specs.declared.program.Program.{Program}
 use Rattle.c_typed.specs.declared.typed.Typed.{Typed}
 use Rattle.c_types.specs.Tied.{IsTyped}
-use Rattle.lawful_sources.specs.Lawful.{bytes_of_object, count, has_few_parameters, is_statement, is_good_main, Everywhere}
+use Rattle.lawful_sources.specs.Lawful.{is_own_scalar, is_own_view, bytes_of_object, count, has_few_parameters, is_statement, is_good_main, Everywhere}
 use Rattle.lawful_sources.specs.Statements.{in_source}
 use Rattle.lawful_names.specs.Spelled.{AllSpelled}
 use Rattle.lawful_sources.specs.Objects.{begins_well, has_shape, has_function, has_parameters}
@@ -73,3 +73,9 @@ ObjectsBegin = (program : Program) (typed : Typed) → AllSpelled program → Is
 
 abbrev pub ParametersAreFew : Type 0
 ParametersAreFew = (program : Program) (typed : Typed) → IsTyped program typed → list_all has_few_parameters typed.functions ≡ true
+
+abbrev pub ScalarsAreFew : Type 0
+ScalarsAreFew = (program : Program) (typed : Typed) → AllSpelled program → IsTyped program typed → (function : ℕ) → count (is_own_scalar function) typed.objects ≤ SCALARS
+
+abbrev pub ViewsAreFew : Type 0
+ViewsAreFew = (program : Program) (typed : Typed) → IsTyped program typed → (function : ℕ) → count (is_own_view function) typed.objects ≤ VIEWS

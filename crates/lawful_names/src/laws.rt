@@ -1,6 +1,6 @@
 // Lines of what is lawful that hold of every source without a fault by what its names stand for.
 
-ghost use Rattle.lawful_names.specs.Laws.{ArgumentsAreCounted, ArgumentsFit, CalleesAreDefined, ConstIsKept, ConstantsAreFew, ConversionsStand, DataAreFew, FunctionsAreFew, FunctionsExist, HasMain, MainIsNotCalled, ObjectsBegin, ObjectsExist, ObjectsHaveFunctions, ObjectsHaveShapes, ParametersAreFew, ParametersAreObjects, PlacesFit, StatementsAreFew, ValuesAreGiven, WidthsAgree};
+ghost use Rattle.lawful_names.specs.Laws.{ArgumentsAreCounted, ArgumentsFit, CalleesAreDefined, ConstIsKept, ConstantsAreFew, ConversionsStand, DataAreFew, FunctionsAreFew, FunctionsExist, HasMain, MainIsNotCalled, ObjectsBegin, ObjectsExist, ObjectsHaveFunctions, ObjectsHaveShapes, ParametersAreFew, ParametersAreObjects, PlacesFit, ScalarsAreFew, StatementsAreFew, ValuesAreGiven, ViewsAreFew, WidthsAgree};
 
 /// Each object that is named is one of the source's own.
 pub fn objects_exist()
@@ -105,4 +105,14 @@ pub fn objects_begin()
 /// The parameters of each function are few.
 pub fn parameters_are_few()
     ensures { ParametersAreFew }
+{}
+
+/// The scalars of each function are few, where the grammar allows the source.
+pub fn scalars_are_few()
+    ensures { ScalarsAreFew }
+{}
+
+/// The views of each function are few.
+pub fn views_are_few()
+    ensures { ViewsAreFew }
 {}
