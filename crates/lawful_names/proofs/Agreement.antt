@@ -1,9 +1,8 @@
 -- What a name stands for, as what is seen has it, and what it is tied to: the two agree.
-use Rattle.std.proofs.Common.{◌≡◌, ℕ, ◌+◌, ◌<◌, List, [], ◌∷◌, Bool, true, false, map, length, refl, sym, ap, ◌∙◌}
+use Rattle.std.proofs.Common.{◌≡◌, ℕ, List, [], ◌∷◌, Bool, true, false, map, refl}
 use Rattle.std.specs.Prelude.{Option, Some, None, is_some, if◌then◌else◌, slice_get}
 use Rattle.sat_base.specs.declared.width.Width.{Width}
 use Rattle.c_scopes.specs.declared.scopes.Declared.{Declared}
-use Rattle.c_scopes.specs.Scopes.{Known, meaning_of}
 use Rattle.c_tree.specs.declared.function.Function.{Function}
 use Rattle.c_tree.specs.declared.function.Param.{Param}
 use Rattle.c_tree.specs.declared.program.Item.{Item}
@@ -12,7 +11,6 @@ use Rattle.c_typed.specs.declared.call.Callee.TheVariants as callees
 use Rattle.c_typed.specs.declared.typed.Typed.{Typed}
 use Rattle.c_typed.specs.declared.typed.TypedFunction.{TypedFunction}
 use Rattle.operator_meaning.specs.declared.object.Object.{Object}
-use Rattle.predefined_calls.specs.Calls.{callee_of, other_call, operator_of}
 use Rattle.c_seen.specs.declared.seen.Kind.{Kind}
 use Rattle.c_seen.specs.declared.seen.Kind.TheVariants as kinds
 use Rattle.c_seen.specs.declared.seen.Meaning.{Meaning}

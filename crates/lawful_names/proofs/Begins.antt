@@ -1,7 +1,6 @@
 -- The objects of blocks begin well: each has the value that it starts with, where that is a constant expression.
-use Rattle.std.proofs.Common.{◌≡◌, ℕ, List, [], ◌∷◌, Bool, true, false, refl, sym, ap, ◌∙◌, subst}
-use Rattle.std.specs.Prelude.{ℤ, pos, Option, Some, None, is_none, is_some, not, ◌&&◌, ◌||◌, ◌==◌, if◌then◌else◌, unwrap_or, slice_get}
-use Rattle.std.specs.Ordering.{int_eq}
+use Rattle.std.proofs.Common.{◌≡◌, ℕ, List, [], Bool, true, false, refl, ap, ◌∙◌, subst}
+use Rattle.std.specs.Prelude.{ℤ, pos, Option, Some, None, is_none, is_some, not, ◌&&◌, ◌||◌, ◌==◌, if◌then◌else◌, unwrap_or}
 use Rattle.std.proofs.lemmas.Bool.Decides.{Decides-int_eq}
 use Rattle.sat_base.specs.declared.name.At.{At}
 use Rattle.sat_base.specs.declared.width.Width.{Width}
@@ -9,7 +8,6 @@ use Rattle.sat_base.specs.declared.width.Width.TheVariants.{W16, W32}
 use Rattle.sat_base.specs.Clip.{low16}
 use Rattle.c_tree.specs.declared.call.Arg.{Arg, Value', Address}
 use Rattle.c_tree.specs.declared.declaration.Decl.{Decl}
-use Rattle.c_tree.specs.declared.declaration.Dim.{Dim}
 use Rattle.c_tree.specs.declared.declaration.Init.{Init}
 use Rattle.c_tree.specs.declared.declaration.Init.TheVariants as init
 use Rattle.c_tree.specs.declared.program.Item.{Item}
@@ -19,23 +17,22 @@ use Rattle.operator_meaning.specs.declared.object.Storage.TheVariants.{Static, A
 use Rattle.constant_expressions.specs.Folding.{converted, folded_kind}
 use Rattle.declared_objects.specs.Initialisers.{is_missing, bad_init}
 use Rattle.declared_objects.specs.Lengths.{is_array, rows_of, elements_of}
-use Rattle.c_seen.specs.declared.seen.Kind.{Kind}
 use Rattle.c_seen.specs.declared.seen.Kind.TheVariants as kinds
-use Rattle.c_seen.specs.declared.seen.Seen.{Seen}
 use Rattle.c_seen.specs.declared.seen.Seen.TheVariants as seen
 use Rattle.c_seen.specs.Declarations as scope
 use Rattle.c_seen.specs.Declarations.{object}
 use Rattle.c_faults.specs.Rows.{at_if}
 use Rattle.tied_objects.specs.Initial.{filled, value_if, given_value, values_by, initial_values}
 use Rattle.tied_objects.specs.Objects.{rows_in, columns_in, object_of}
-use Rattle.lawful_sources.specs.Objects.{is_static, is_parameter, value_agrees, value_stands, begins_with, begins_well}
-use Rattle.lawful_laws.proofs.Functions.{left, right}
+use Rattle.lawful_sources.specs.Objects.{is_static, is_parameter, value_agrees, begins_with, begins_well}
+use Rattle.lawful_laws.proofs.Functions.{both, left, right}
 use Rattle.lawful_names.proofs.Clean.{Clean, never}
 use Rattle.lawful_names.proofs.Declarations.{no-array}
 use Rattle.lawful_names.proofs.Fitting.{Fits}
 use Rattle.lawful_names.proofs.Shapes.{kind_by, shows, Shaped, is_sound, sound-clean, sound-shapes}
-use Rattle.lawful_names.proofs.Starting.{is_one, ByValue, StartsBy, Starts}
+use Rattle.lawful_names.proofs.Starting.{is_one, ByValue, StartsBy}
 use Rattle.lawful_names.proofs.Values.{argument_value}
+use Rattle.lawful_names.proofs.Truths.{or-left, or-right, both-ways}
 
 -- ---- values
 
@@ -61,10 +58,7 @@ no-pointer true at p = absurd (never at p)
 no-pointer false at p = absurd (never at p)
 
 no-list : {A : Type 0} (array rest : Bool) (at : At) → array ≡ false → at_if (not array || rest) at ≡ None → A
-no-list true rest at p q = let wrong : true ≡ false = p in absurd (apart wrong)
-  where
-    apart : true ≡ false → ⊥
-    apart r = cc
+no-list true rest at p q = both-ways true refl p
 no-list false rest at p q = absurd (never at q)
 
 shown-rows : (line view : Bool) (rows columns : ℕ) → shows (if line then kinds.Array else kinds.Table) view rows columns ≡ true → not (rows == 0) ≡ true
@@ -80,14 +74,6 @@ array-rows decl is_local plain array p =
 
 pointer-single : (decl : Decl) → decl.pointer ≡ true → is_array decl ≡ false
 pointer-single decl p = ap (λ (b : Bool). not b && is_some decl.rows) p
-
-or-left : (a b : Bool) → a ≡ true → (a || b) ≡ true
-or-left true b p = refl
-or-left false b p = cc
-
-or-right : (a b : Bool) → b ≡ true → (a || b) ≡ true
-or-right true b p = refl
-or-right false b p = p
 
 both-not : (view rest : Bool) → view ≡ false → rest ≡ true → (not view && rest) ≡ true
 both-not true rest p q = cc
@@ -124,16 +110,12 @@ valued-by false rest p q = q
 single-rows : (decl : Decl) → is_array decl ≡ false → (rows_in decl == 0) ≡ true
 single-rows decl p = ap (λ (b : Bool). (if b then unwrap_or (rows_of decl) 0 else 0) == 0) p
 
-and-both : (a b : Bool) → a ≡ true → b ≡ true → (a && b) ≡ true
-and-both true b p q = q
-and-both false b p q = cc
-
 valued-start : (decl : Decl) (value : Option ℤ) → ByValue decl value → (is_local : Bool) → Clean (seen.Object (object decl is_local)) → (pointer : Bool) → decl.pointer ≡ pointer
     → (decl.pointer || (rows_in decl == 0 && value_agrees (initial_values decl) value)) ≡ true
 valued-start decl value by is_local c true p = or-left _ _ p
 valued-start decl value by is_local c false p =
     let single : is_array decl ≡ false = no-array (is_array decl) _ decl.name.at (subst (λ (i : Init). at_if (bad_init decl (scope.is_static is_local decl) i) decl.name.at ≡ None) by.given c.initialiser) in
-    or-right decl.pointer _ (and-both _ _ (single-rows decl single)
+    or-right decl.pointer _ (both _ _ (single-rows decl single)
     (ap (λ (b : Bool). value_agrees (if b then None else values_by decl decl.init) value) p
     ∙ ap (λ (i : Init). value_agrees (values_by decl i) value) by.given
     ∙ ap (value_agrees (given_value decl.width by.arg)) (by.is p)

@@ -1,6 +1,6 @@
 -- What the parameter at each place of a call takes, on both sides; and calls without a fault.
-use Rattle.std.proofs.Common.{◌≡◌, ℕ, zero, suc, ◌+◌, ◌<◌, List, [], ◌∷◌, Bool, true, false, map, length, refl, sym, ap, ◌∙◌, subst, arith}
-use Rattle.std.specs.Prelude.{Option, Some, None, is_some, ◌&&◌, not, ◌==◌, nat_lt, codes, slice_get, if◌then◌else◌}
+use Rattle.std.proofs.Common.{◌≡◌, ℕ, zero, suc, ◌<◌, List, [], ◌∷◌, Bool, true, false, map, length, refl, sym, ap, ◌∙◌, subst, arith}
+use Rattle.std.specs.Prelude.{Option, Some, None, is_some, ◌==◌, nat_lt, codes, slice_get, if◌then◌else◌}
 use Rattle.std.specs.Str.{bytes_eq}
 use Rattle.std.proofs.lemmas.Bool.{eqb-true}
 use Rattle.std.proofs.lemmas.Bool.Decides.{nat_tests}
@@ -23,22 +23,19 @@ use Rattle.c_seen.specs.declared.seen.Called.TheVariants as calls
 use Rattle.c_seen.specs.declared.seen.Kind.{Kind}
 use Rattle.c_seen.specs.declared.seen.Meaning.{Meaning}
 use Rattle.c_seen.specs.declared.seen.Meaning.TheVariants as means
-use Rattle.c_seen.specs.declared.seen.Need.{Need}
 use Rattle.c_seen.specs.declared.seen.Need.TheVariants as needs
 use Rattle.c_seen.specs.declared.seen.Seen.{Seen}
 use Rattle.c_seen.specs.declared.seen.Seen.TheVariants as seen
 use Rattle.c_seen.specs.declared.seen.View.{View as SeenView}
-use Rattle.c_seen.specs.declared.seen.Wanted.{Wanted}
 use Rattle.c_seen.specs.declared.seen.Wanted.TheVariants as wants
 use Rattle.c_seen.specs.Functions.{function_at, functions_of, is_defined}
-use Rattle.c_seen.specs.Meanings.{Names, called_as, called_function, wanted_at, wanted_by, wanted_of_function}
-use Rattle.tied_names.specs.declared.tie.Asked.{Asked}
+use Rattle.c_seen.specs.Meanings.{Names, called_as, called_function, wanted_at, wanted_of_function}
 use Rattle.tied_names.specs.declared.tie.Asked.TheVariants as asks
 use Rattle.tied_names.specs.declared.tie.Tie.{Tie}
 use Rattle.tied_names.specs.declared.tie.Tie.TheVariants as ties
-use Rattle.tied_names.specs.Ties.{callee_by, asked_of, asked_by_parameter, asked_by_function}
+use Rattle.tied_names.specs.Ties.{callee_by, asked_of, asked_by_function}
 use Rattle.lawful_sources.specs.Things.{Taken, Number, View, Thing, Call, taken_at, taken_by, taken_by_object, taken_by_parameter, taken_by_predefined, parameter_object}
-use Rattle.lawful_names.proofs.Agreement.{Sort, sort_of, sorts, IsParameter, AreParameters, IsFunction, Agrees, is_predefined}
+use Rattle.lawful_names.proofs.Agreement.{Sort, sort_of, IsParameter, AreParameters, IsFunction, Agrees, is_predefined}
 use Rattle.lawful_names.proofs.Clean.{Clean, never}
 use Rattle.lawful_names.proofs.Fitting.{Fits, IsGoodCall, wanted_for, asked_for, need_if}
 

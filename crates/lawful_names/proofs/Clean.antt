@@ -1,5 +1,5 @@
 -- What it means of one thing seen that it has no fault: each row of the table of faults tells none.
-use Rattle.std.proofs.Common.{◌≡◌, List, [], ◌∷◌, Bool, true, false, refl}
+use Rattle.std.proofs.Common.{◌≡◌, List, [], ◌∷◌, Bool, true, refl}
 use Rattle.std.specs.Prelude.{Option, Some, None}
 use Rattle.sat_base.specs.declared.fault.Fault.{Fault}
 use Rattle.sat_base.specs.declared.fault.FaultKind.{FaultKind}

@@ -1,6 +1,6 @@
 -- The relational constants of a source that passes no limit are few.
-use Rattle.std.proofs.Common.{◌≡◌, Ordering, Less, Equal, Greater, ℕ, suc, ◌+◌, ◌-◌, ◌≤◌, ◌<◌, List, [], ◌∷◌, ◌++◌, Bool, true, false, length, refl, sym, ap, ◌∙◌, subst, arith}
-use Rattle.std.specs.Prelude.{ℤ, Option, Some, None, not, ◌&&◌, ◌||◌, nat_le, if◌then◌else◌}
+use Rattle.std.proofs.Common.{◌≡◌, Ordering, Less, Equal, Greater, suc, ◌-◌, ◌≤◌, ◌<◌, List, [], ◌∷◌, ◌++◌, Bool, true, false, length, refl, ap, arith}
+use Rattle.std.specs.Prelude.{ℤ, Some, None, not, ◌&&◌, ◌||◌, nat_le, if◌then◌else◌}
 use Rattle.std.specs.BTreeMap.{is_at}
 use Rattle.std.specs.BTreeSet.{insert_key}
 use Rattle.std.specs.List.{list_any}
@@ -15,9 +15,8 @@ use Rattle.c_seen.specs.declared.seen.Seen.{Seen}
 use Rattle.c_seen.specs.declared.seen.Seen.TheVariants as seen
 use Rattle.c_seen.specs.Sources.{seen_of}
 use Rattle.c_faults.specs.Faults.{limits}
-use Rattle.c_faults.specs.Limits as past
-use Rattle.c_faults.specs.Limits.{is_one_too_many, count_constant, first_constant_past, constants_passed}
-use Rattle.c_types.specs.Constants.{constant_in, is_among, new_constant, with_constant, constants_after, constants_of}
+use Rattle.c_faults.specs.Limits.{first_constant_past, constants_passed}
+use Rattle.c_types.specs.Constants.{constants_after, constants_of}
 use Rattle.c_types.specs.Tied.{IsTyped}
 use Rattle.lawful_names.proofs.Clean.{AllNone, none-kept, untold, never}
 use Rattle.lawful_names.proofs.Faultless.{no-limit}

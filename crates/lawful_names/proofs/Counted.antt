@@ -6,7 +6,6 @@ use Rattle.sat_base.specs.declared.fault.FaultKind.TheVariants as fault
 use Rattle.sat_base.specs.declared.limits.TheConstants.{STATEMENTS}
 use Rattle.sat_base.specs.declared.name.At.{At}
 use Rattle.c_scopes.specs.Scopes.{Known}
-use Rattle.c_tree.specs.declared.expression.Expr.{Expr}
 use Rattle.c_tree.specs.declared.function.Function.{Function}
 use Rattle.c_tree.specs.declared.program.Item.{Item}
 use Rattle.c_tree.specs.declared.program.Item.TheVariants as items_of
@@ -36,15 +35,15 @@ use Rattle.c_seen.specs.Statements.{simples, seen_in_statement, seen_in_block, s
 use Rattle.c_seen.proofs.Statements_seen as sees
 use Rattle.c_faults.specs.declared.limits.Quantity.TheVariants as of
 use Rattle.c_faults.specs.Faults.{limits}
-use Rattle.c_faults.specs.Limits.{amount, passed}
+use Rattle.c_faults.specs.Limits.{passed}
 use Rattle.tied_names.specs.Ties.{Here}
 use Rattle.tied_statements.specs.declared.statements.Inside.{Inside}
 use Rattle.tied_statements.specs.Declarations.{with_objects, starts_in_lists}
 use Rattle.tied_statements.specs.Statements.{Done, tied_statement, tied_block, tied_statements}
 use Rattle.tied_statements.proofs.Statement_equations as ties
-use Rattle.c_types.specs.Sources.{Source, number_of, functions_or, declared, defining, parameters_of, inside_of, after_declaration, after_body, after_function, after_item, after_items}
+use Rattle.c_types.specs.Sources.{Source, number_of, functions_or, declared, parameters_of, inside_of, after_declaration, after_body, after_function, after_item, after_items}
 use Rattle.c_types.specs.Tied.{IsTyped}
-use Rattle.lawful_sources.specs.Things.{Written, Thing, Begins, Statement, Return}
+use Rattle.lawful_sources.specs.Things.{Written, Thing, Statement}
 use Rattle.lawful_sources.specs.Expressions.{argument_look}
 use Rattle.lawful_sources.specs.Lawful.{is_statement}
 use Rattle.lawful_sources.specs.Statements.{Spot, Walk, in_option, in_simple, in_simples, in_value, in_returned, in_start, in_value_of, of_statement, of_block, all_of, in_statement, in_block, in_function, in_source}
@@ -251,7 +250,7 @@ module _ (source : Typed) where
       let one : total of_function (after_function s item g).functions ≤ total of_function (after_declaration s item g).functions + spent of.Statements (seen_in_body (after_parameters own g.params) g g.body) =
       body-counts (after_declaration s item g) (number_of s g) g g.body (after_parameters own g.params) in
       let parts : spent of.Statements (seen_in_parameters own (is_some g.body) g.params ++ seen_in_body (after_parameters own g.params) g g.body)
-          ≡ spent of.Statements (seen_in_parameters own (is_some g.body) g.params) + spent of.Statements (seen_in_body (after_parameters own g.params) g g.body) =
+      ≡ spent of.Statements (seen_in_parameters own (is_some g.body) g.params) + spent of.Statements (seen_in_body (after_parameters own g.params) g g.body) =
       spent-append of.Statements (seen_in_parameters own (is_some g.body) g.params) _ in
       let more : total of_function (after_items (after_function s item g) (item + 1) rest).functions ≤ total of_function (after_function s item g).functions + spent of.Statements (seen_in_items own after (item + 1) rest) =
       items-count (after_function s item g) own after (item + 1) rest in

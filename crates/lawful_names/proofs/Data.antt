@@ -1,24 +1,17 @@
 -- The bytes of the objects of a source that passes no limit are few.
-use Rattle.std.proofs.Common.{◌≡◌, ℕ, suc, zero, ◌+◌, ◌*◌, ◌≤◌, List, [], ◌∷◌, ◌++◌, Bool, true, false, refl, sym, ap, ◌∙◌, subst, arith}
-use Rattle.std.specs.Prelude.{not, ◌&&◌, ◌==◌, if◌then◌else◌, Option, Some, None, is_none, is_some, option_map, unwrap_or, slice_get}
+use Rattle.std.proofs.Common.{◌≡◌, ℕ, ◌+◌, ◌*◌, ◌≤◌, [], ◌∷◌, Bool, true, false, refl, ap, ◌∙◌, arith}
+use Rattle.std.specs.Prelude.{not, ◌&&◌, ◌==◌, if◌then◌else◌, Option, Some, None, is_some, option_map, unwrap_or}
 use Rattle.std.specs.List.{sum_by}
-use Rattle.std.proofs.lemmas.Bool.Decides.{nat_tests}
 use Rattle.sat_base.specs.declared.fault.FaultKind.TheVariants as fault
 use Rattle.sat_base.specs.declared.limits.TheConstants.{OBJECT_BYTES}
 use Rattle.sat_base.specs.declared.name.At.{At}
-use Rattle.sat_base.specs.declared.name.Named.{Named}
 use Rattle.sat_base.specs.declared.width.Width.{Width}
 use Rattle.sat_base.specs.declared.width.Width.TheVariants.{W16, W32}
 use Rattle.c_tree.specs.declared.declaration.Decl.{Decl}
 use Rattle.c_tree.specs.declared.declaration.Dim.{Dim}
-use Rattle.c_tree.specs.declared.function.Param.{Param}
 use Rattle.c_tree.specs.declared.program.Program.{Program}
 use Rattle.c_typed.specs.declared.typed.Typed.{Typed}
-use Rattle.operator_meaning.specs.declared.object.Object.{Object}
 use Rattle.declared_objects.specs.Lengths.{length_in, is_array, columns_in, rows_of, elements_in, elements_of}
-use Rattle.c_seen.specs.declared.seen.Kind.{Kind}
-use Rattle.c_seen.specs.declared.seen.Kind.TheVariants as kinds
-use Rattle.c_seen.specs.declared.seen.Seen.{Seen}
 use Rattle.c_seen.specs.declared.seen.Seen.TheVariants as seen
 use Rattle.c_seen.specs.Declarations.{object, parameter, elements_by}
 use Rattle.c_seen.specs.Functions.{is_view}
@@ -33,13 +26,14 @@ use Rattle.c_types.specs.Tied.{IsTyped}
 use Rattle.lawful_sources.specs.Lawful.{bytes_of_width, bytes_of_object}
 use Rattle.lawful_laws.proofs.Functions.{left, right}
 use Rattle.lawful_names.specs.Spelled.{has_elements, AllSpelled}
-use Rattle.lawful_names.proofs.Clean.{Clean, AllNone, none-kept, untold, never}
+use Rattle.lawful_names.proofs.Clean.{AllNone, none-kept, untold, never}
 use Rattle.lawful_names.proofs.Faultless.{seen-clean, no-limit}
 use Rattle.lawful_names.proofs.MeasuredItems.{Measures, items-measure}
 use Rattle.lawful_names.proofs.Shapes.{kind_by, factors, itself, is_sound, sound-clean, sound-spelled, all-sound}
 use Rattle.lawful_names.proofs.Sources.{reached, start_of, names_at_start}
 use Rattle.lawful_names.proofs.Spent.{spent, spent-append, within-limit}
 use Rattle.lawful_names.proofs.Totals.{total, sum-total}
+use Rattle.lawful_names.proofs.Truths.{is-false}
 
 same-bytes : (width : Width) → bytes_of_width width ≡ bytes_of width
 same-bytes W16 = refl
@@ -48,10 +42,6 @@ same-bytes W32 = refl
 -- the elements of an object, by its numbers
 abbrev counted : ℕ → ℕ → ℕ
 counted rows columns = if rows == 0 then 1 else (if columns == 0 then rows else rows * columns)
-
-is-false : (b : Bool) → not b ≡ true → b ≡ false
-is-false true p = cc
-is-false false p = refl
 
 counted-line : (rows : ℕ) → not (rows == 0) ≡ true → counted rows 0 ≡ rows
 counted-line rows p = ap (λ (b : Bool). if b then 1 else (if 0 == 0 then rows else rows * 0)) (is-false (rows == 0) p)

@@ -1,6 +1,6 @@
 -- Objects that are declared in a block: once they are, names stand for what they are tied to, and they start rightly.
-use Rattle.std.proofs.Common.{◌≡◌, ℕ, ◌+◌, List, [], ◌∷◌, ◌++◌, Bool, true, false, map, length, refl, sym, ap, ◌∙◌, subst}
-use Rattle.std.specs.Prelude.{ℤ, flat_map, Option, Some, None, option_map, is_none, not, ◌||◌, ◌&&◌, if◌then◌else◌, nat_lt, slice_get}
+use Rattle.std.proofs.Common.{◌≡◌, ℕ, List, [], ◌∷◌, ◌++◌, Bool, true, false, length, refl, sym, ap, ◌∙◌, subst}
+use Rattle.std.specs.Prelude.{flat_map, Option, Some, None, option_map, is_none, not, ◌||◌, if◌then◌else◌, nat_lt, slice_get}
 use Rattle.std.specs.Str.{bytes_eq}
 use Rattle.std.proofs.lemmas.Grind.{flat_map-append}
 use Rattle.sat_base.specs.declared.name.At.{At}
@@ -25,7 +25,6 @@ use Rattle.c_seen.specs.declared.seen.Kind.TheVariants as kinds
 use Rattle.c_seen.specs.declared.seen.Seen.{Seen}
 use Rattle.c_seen.specs.declared.seen.Seen.TheVariants as seen
 use Rattle.c_seen.specs.declared.seen.Wanted.{Wanted}
-use Rattle.c_seen.specs.declared.seen.Wanted.TheVariants as wants
 use Rattle.c_seen.specs.Declarations as scope
 use Rattle.c_seen.specs.Declarations.{object, dimension, initialiser, is_static, wanted_of, meaning_of_declared, seen_in_declared, seen_in_objects, seen_in_lists, after_lists}
 use Rattle.c_seen.specs.Expressions.{seen_in_argument}
@@ -39,12 +38,12 @@ use Rattle.tied_names.specs.Ties.{Here}
 use Rattle.tied_objects.specs.Objects.{object_of, object_of_parameter}
 use Rattle.tied_expressions.specs.Expressions.{tied_argument}
 use Rattle.tied_statements.specs.Declarations.{tie_to, after_declared, asked_by, start_value, starts_of, starts_in_lists}
-use Rattle.lawful_sources.specs.Things.{Taken, Number, View, Thing, Begins, taken_by, taken_by_object}
+use Rattle.lawful_sources.specs.Things.{Taken, Number, View, Thing, taken_by, taken_by_object}
 use Rattle.lawful_sources.specs.Expressions.{argument_look, in_argument}
 use Rattle.lawful_sources.specs.Statements.{in_value_of, in_start}
 use Rattle.lawful_sources.proofs.Passing.{Each, none, next, joined}
 use Rattle.lawful_laws.proofs.Statements.{earlier, later, tail, head}
-use Rattle.lawful_names.proofs.Agreement.{IsObject, Agrees, Near, is_pointing, newest-agrees}
+use Rattle.lawful_names.proofs.Agreement.{Near, is_pointing, newest-agrees}
 use Rattle.lawful_names.proofs.Clean.{Clean, never}
 use Rattle.lawful_names.proofs.Expressions.{argument-stands}
 use Rattle.lawful_names.proofs.Fitting.{Fits, wanted_for, asked_for}
@@ -130,7 +129,6 @@ asked-start false width is_const = refl
 
 module _ (source : Typed) (items : List Item) (Shaped : Kind → Object → Type 0) (sound : Seen → Bool) (clean : (s : Seen) → sound s ≡ true → Clean s) (shapes : Shapes Shaped sound)
     (test : Thing → Bool) (fits : Fits source items Shaped sound test) where
-
   one-value : (names : Names) (here : Here) → Near source items Shaped names here → (decl : Decl) (is_local : Bool) (function : ℕ) (exposed : Bool) (number : ℕ) → slice_get source.objects number ≡ Some (object_of decl (Some function) exposed)
       → sound (seen.Object (object decl is_local)) ≡ true → is_array decl ≡ false → (arg : Arg) → decl.is_static ≡ false → decl.init ≡ init.One arg → Each sound (seen_in_argument arg names (wanted_of (kind_of decl) decl))
       → Each test (in_value_of source number (Some (argument_look source (tied_argument arg here (asked_by decl)).value)))
@@ -182,7 +180,7 @@ module _ (source : Typed) (items : List Item) (Shaped : Kind → Object → Type
       let first : Each sound (seen_in_declared names depth decl) = earlier sound (seen_in_declared names depth decl) (seen_in_objects (scope.after_declared names depth decl) depth decls) p in
       let inside : Within (after_declared here (Some function) decl).objects source.objects = within-more _ _ _ (starts-grow (after_declared here (Some function) decl) function decls) within in
       let rest : Each test (flat_map (in_start source) (starts_of (after_declared here (Some function) decl) function decls).value)
-          × Near source items Shaped (scope.after_objects (scope.after_declared names depth decl) depth decls) (starts_of (after_declared here (Some function) decl) function decls).after =
+      × Near source items Shaped (scope.after_objects (scope.after_declared names depth decl) depth decls) (starts_of (after_declared here (Some function) decl) function decls).after =
       starts-stand (scope.after_declared names depth decl) (after_declared here (Some function) decl) depth function decls
       (declared-near source items Shaped sound shapes names here depth decl (nat_lt 0 depth) (Some function) near inside (object-sound source items Shaped sound shapes names depth decl first)) within
       (later sound (seen_in_declared names depth decl) (seen_in_objects (scope.after_declared names depth decl) depth decls) p) in
@@ -200,6 +198,6 @@ module _ (source : Typed) (items : List Item) (Shaped : Kind → Object → Type
       let first : Each test (flat_map (in_start source) (starts_of here function list.decls).value) × Near source items Shaped (scope.after_objects names depth list.decls) (starts_of here function list.decls).after =
       starts-stand names here depth function list.decls near inside (earlier sound (seen_in_objects names depth list.decls) more p) in
       let rest : Each test (flat_map (in_start source) (starts_in_lists (starts_of here function list.decls).after function lists).value)
-          × Near source items Shaped (after_lists (scope.after_objects names depth list.decls) depth lists) (starts_in_lists (starts_of here function list.decls).after function lists).after =
+      × Near source items Shaped (after_lists (scope.after_objects names depth list.decls) depth lists) (starts_in_lists (starts_of here function list.decls).after function lists).after =
       lists-stand (scope.after_objects names depth list.decls) (starts_of here function list.decls).after depth function lists first.1 within (later sound (seen_in_objects names depth list.decls) more p) in
       (flat-append _ _ first.0 rest.0, rest.1)

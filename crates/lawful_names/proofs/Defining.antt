@@ -1,5 +1,5 @@
 -- One more function: what is kept of it and of all others once it is declared, and defined where it has a body.
-use Rattle.std.proofs.Common.{◌≡◌, ℕ, ◌+◌, ◌<◌, List, [], ◌∷◌, ◌++◌, Bool, true, false, map, length, refl, sym, ap, ◌∙◌, subst, inl, inr, arith}
+use Rattle.std.proofs.Common.{◌≡◌, ℕ, ◌<◌, List, ◌∷◌, Bool, true, false, length, refl, sym, ap, ◌∙◌, subst, arith}
 use Rattle.std.specs.Prelude.{Option, Some, None, is_some, ◌||◌, nat_lt, slice_get}
 use Rattle.std.specs.Str.{bytes_eq}
 use Rattle.std.proofs.lemmas.Bool.Decides.{nat_tests}
@@ -12,21 +12,17 @@ use Rattle.c_tree.specs.declared.program.Item.{Item}
 use Rattle.c_tree.specs.declared.statement.Block.{Block}
 use Rattle.c_typed.specs.declared.typed.Typed.{Typed}
 use Rattle.c_typed.specs.declared.typed.TypedFunction.{TypedFunction}
-use Rattle.operator_meaning.specs.declared.object.Object.{Object}
 use Rattle.predefined_calls.specs.Calls.{callee_of}
 use Rattle.c_seen.specs.declared.functions.Declaration.{Declaration}
-use Rattle.c_seen.specs.declared.seen.Meaning.{Meaning}
 use Rattle.c_seen.specs.declared.seen.Meaning.TheVariants as means
-use Rattle.c_seen.specs.declared.seen.Seen.{Seen}
 use Rattle.c_seen.specs.declared.seen.Seen.TheVariants as seen
 use Rattle.c_seen.specs.Functions.{function_at, functions_of, is_defined, defined_by, is_alike, differs, declaring_function}
 use Rattle.c_seen.specs.Sources.{function_seen}
 use Rattle.tied_names.specs.declared.tie.Tie.{Tie}
 use Rattle.tied_names.specs.declared.tie.Tie.TheVariants as ties
 use Rattle.tied_names.specs.Ties.{Here, tied_or}
-use Rattle.tied_statements.specs.Statements.{tied_block}
 use Rattle.c_types.specs.Sources.{Source, function_number, defined, parameters_of, number_or, functions_or, defining, inside_of, body_of, after_body}
-use Rattle.lawful_names.proofs.Agreement.{Sort, sorts, AreParameters, IsFunction}
+use Rattle.lawful_names.proofs.Agreement.{sorts, AreParameters, IsFunction}
 use Rattle.lawful_names.proofs.Alike.{alike-gives, alike-sorts}
 use Rattle.lawful_names.proofs.Clean.{Clean}
 use Rattle.lawful_names.proofs.Keeping.{State, number_in, Keeps, Covers, Fresh, Kept, passed, found, get-append, get-set, get-if, some-same, parameters-are, keeps-other, Entry, own_number, own_functions, kept-alike, entry-of}

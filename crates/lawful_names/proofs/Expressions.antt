@@ -1,6 +1,6 @@
 -- What stands in an expression, a place, a call or an argument without a fault passes each test that fits: an induction
 -- over the tree, by what is seen in it and by what it is tied to.
-use Rattle.std.proofs.Common.{◌≡◌, ℕ, zero, suc, ◌+◌, ◌<◌, ◌≤◌, List, [], ◌∷◌, ◌++◌, Bool, true, false, map, length, refl, sym, ap, ◌∙◌, subst, arith}
+use Rattle.std.proofs.Common.{◌≡◌, ℕ, suc, ◌+◌, ◌<◌, List, [], ◌∷◌, Bool, true, false, map, length, refl, sym, ap, ◌∙◌, subst, arith}
 use Rattle.std.specs.Prelude.{ℤ, Option, Some, None}
 use Rattle.std.proofs.lemmas.List.{length-map}
 use Rattle.sat_base.specs.declared.name.At.{At}
@@ -10,7 +10,7 @@ use Rattle.c_tree.specs.declared.call.Arg.{Arg, ind-Arg, map-Arg, roll-Arg}
 use Rattle.c_tree.specs.declared.call.Arg.TheOpen as node
 use Rattle.c_tree.specs.declared.call.Arg.TheVariants as arg
 use Rattle.c_tree.specs.declared.call.Call.{Call, ind-Call, roll-Call}
-use Rattle.c_tree.specs.declared.expression.Expr.{Expr, ind-Expr, roll-Expr}
+use Rattle.c_tree.specs.declared.expression.Expr.{Expr, roll-Expr}
 use Rattle.c_tree.specs.declared.expression.ExprKind.{ExprKind, ind-ExprKind, map-ExprKind, roll-ExprKind}
 use Rattle.c_tree.specs.declared.expression.ExprKind.TheVariants as kind
 use Rattle.c_tree.specs.declared.place.Place.{Place, ind-Place, map-Place, roll-Place}
@@ -30,7 +30,6 @@ use Rattle.c_seen.specs.declared.seen.Kind.{Kind}
 use Rattle.c_seen.specs.declared.seen.Marks.{Marks as SeenMarks}
 use Rattle.c_seen.specs.declared.seen.Marks.TheVariants as with_marks
 use Rattle.c_seen.specs.declared.seen.Meaning.{Meaning}
-use Rattle.c_seen.specs.declared.seen.Need.{Need}
 use Rattle.c_seen.specs.declared.seen.Need.TheVariants as needs
 use Rattle.c_seen.specs.declared.seen.Seen.{Seen}
 use Rattle.c_seen.specs.declared.seen.Seen.TheVariants as seen
@@ -38,29 +37,28 @@ use Rattle.c_seen.specs.declared.seen.View.{View as SeenView}
 use Rattle.c_seen.specs.declared.seen.Wanted.{Wanted}
 use Rattle.c_seen.specs.declared.seen.Wanted.TheVariants as wants
 use Rattle.c_seen.specs.Expressions.{constants_in, placed, seen_in_expression, seen_in_kind, constant_of_kind, seen_in_place, seen_in_call, seen_in_argument, arguments_from}
-use Rattle.c_seen.specs.Meanings.{Names, meaning, called_by, called_as, wanted_at, need_of}
+use Rattle.c_seen.specs.Meanings.{Names, meaning, called_by, wanted_at}
 use Rattle.c_seen.proofs.Expressions_seen as sees
 use Rattle.tied_names.specs.declared.tie.Asked.{Asked}
 use Rattle.tied_names.specs.declared.tie.Asked.TheVariants as asks
 use Rattle.tied_names.specs.declared.tie.Tie.{Tie}
-use Rattle.tied_names.specs.Ties.{Here, tie_of, object_of, object_by, callee_by, asked_of}
+use Rattle.tied_names.specs.Ties.{Here, tie_of, object_of, callee_by, asked_of}
 use Rattle.tied_expressions.specs.Expressions.{tied_expression, tied_kind, viewed_kind, tied_place, tied_call, tied_argument, arguments_from as tied_arguments}
 use Rattle.tied_expressions.specs.Sites.{Tied, with_conversion}
 use Rattle.tied_expressions.proofs.Tied_equations as said
 use Rattle.lawful_sources.specs.Things.{Taken, Number, View, Use, Given, Thing, Call as TheCall, Argument, Mark, Conversion, Constant, taken_at}
 use Rattle.lawful_sources.specs.Things.{Place as ThePlace}
-use Rattle.lawful_sources.specs.Expressions.{Look, Argued, Placed, Calling, argued_from, of_argument, of_kind, of_place, of_call, argument_look, kind_look, expression_look, in_place, in_call, in_expression, in_argument}
+use Rattle.lawful_sources.specs.Expressions.{Look, Argued, Placed, Calling, argued_from, of_argument, of_kind, of_place, of_call, argument_look, kind_look, in_place, in_call, in_expression, in_argument}
 use Rattle.lawful_sources.proofs.Passing.{Each, none, next, joined, call-is, expression-is}
 use Rattle.lawful_laws.proofs.Statements.{earlier, later, tail, head}
-use Rattle.lawful_names.proofs.Agreement.{Agrees, Near}
+use Rattle.lawful_names.proofs.Agreement.{Near}
 use Rattle.lawful_names.proofs.Calls.{TakesAt, CallFits, call_seen, call-fits, called-no-view}
 use Rattle.lawful_names.proofs.Clean.{Clean, never}
-use Rattle.lawful_names.proofs.Fitting.{Purpose, Reads, Writes, Gives, ampersand_of, need_for, use_of, marks_of, place_seen, wanted_for, asked_for, need_if, Fits, place-fits}
+use Rattle.lawful_names.proofs.Fitting.{Purpose, Reads, Gives, ampersand_of, need_for, use_of, marks_of, wanted_for, asked_for, need_if, Fits, place-fits}
 use Rattle.lawful_names.proofs.Looks as looks
 
 module _ (source : Typed) (items : List Item) (Shaped : Kind → Object → Type 0) (sound : Seen → Bool) (clean : (s : Seen) → sound s ≡ true → Clean s)
     (test : Thing → Bool) (fits : Fits source items Shaped sound test) where
-
   abbrev pub view_of : Width → Bool → SeenView
   view_of width is_const = record { width = width; is_const = is_const }
 

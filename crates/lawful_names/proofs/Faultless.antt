@@ -1,13 +1,12 @@
 -- A source without a fault: nothing that is seen in it has one, so what stands in it passes each test that fits.
-use Rattle.std.proofs.Common.{◌≡◌, List, [], ◌∷◌, ◌++◌, Bool, true, refl, subst}
-use Rattle.std.specs.Prelude.{flat_map, MatchOption, Option, Some, None}
+use Rattle.std.proofs.Common.{◌≡◌, List, [], ◌∷◌, ◌++◌, Bool, true, subst}
+use Rattle.std.specs.Prelude.{flat_map, MatchOption, Option, None}
 use Rattle.std.specs.List.{list_all}
 use Rattle.sat_base.specs.declared.fault.Fault.{Fault}
 use Rattle.c_tree.specs.declared.program.Program.{Program}
 use Rattle.c_typed.specs.declared.typed.Typed.{Typed}
 use Rattle.operator_meaning.specs.declared.object.Object.{Object}
 use Rattle.c_seen.specs.declared.seen.Kind.{Kind}
-use Rattle.c_seen.specs.declared.seen.Seen.{Seen}
 use Rattle.c_seen.specs.Sources.{seen_of}
 use Rattle.c_faults.specs.Faults.{faults_at, faults_of, limits}
 use Rattle.c_faults.specs.Laws.{IsLeast}
@@ -17,7 +16,7 @@ use Rattle.c_types.specs.Tied.{IsTyped}
 use Rattle.lawful_sources.specs.Things.{Thing}
 use Rattle.lawful_sources.specs.Lawful.{Everywhere}
 use Rattle.lawful_laws.proofs.Sound.{seen-sound}
-use Rattle.lawful_names.proofs.Clean.{Clean, is_clean, when-clean, clean-where}
+use Rattle.lawful_names.proofs.Clean.{is_clean, when-clean, clean-where}
 use Rattle.lawful_names.proofs.Declarations.{Shapes}
 use Rattle.lawful_names.proofs.Fitting.{Fits}
 use Rattle.lawful_names.proofs.Sources.{stands-everywhere}

@@ -1,5 +1,5 @@
 -- The functions of a source that passes no limit are few.
-use Rattle.std.proofs.Common.{◌≡◌, ℕ, zero, suc, ◌+◌, ◌≤◌, List, [], ◌∷◌, ◌++◌, Bool, true, false, length, refl, sym, ap, ◌∙◌, arith}
+use Rattle.std.proofs.Common.{◌≡◌, ℕ, zero, suc, ◌+◌, ◌≤◌, List, [], ◌∷◌, Bool, true, false, length, refl, sym, ap, ◌∙◌, arith}
 use Rattle.std.specs.Prelude.{Option, Some, None, is_some, is_none, ◌||◌, ◌&&◌, nat_lt, if◌then◌else◌, slice_set}
 use Rattle.std.proofs.lemmas.List.{length-append}
 use Rattle.sat_base.specs.declared.fault.FaultKind.TheVariants as fault
@@ -16,17 +16,16 @@ use Rattle.c_typed.specs.declared.typed.Typed.{Typed}
 use Rattle.c_typed.specs.declared.typed.TypedFunction.{TypedFunction}
 use Rattle.predefined_calls.specs.Calls.{callee_of}
 use Rattle.c_seen.specs.declared.functions.Declaration.{Declaration}
-use Rattle.c_seen.specs.declared.seen.Seen.{Seen}
 use Rattle.c_seen.specs.declared.seen.Seen.TheVariants as seen
 use Rattle.c_seen.specs.Declarations.{seen_in_objects}
-use Rattle.c_seen.specs.Meanings.{Names, is_taken, is_own}
+use Rattle.c_seen.specs.Meanings.{Names, is_taken}
 use Rattle.c_seen.specs.Sources as seen_sources
 use Rattle.c_seen.specs.Sources.{function_seen, seen_in_function, seen_in_item, seen_in_items, functions_after, seen_of, end_of}
 use Rattle.c_faults.specs.declared.limits.Quantity.TheVariants as of
 use Rattle.c_faults.specs.Faults.{limits}
 use Rattle.c_faults.specs.Limits.{one_if, passed}
 use Rattle.c_faults.specs.Rows.{at_if}
-use Rattle.c_types.specs.Sources.{Source, number_of, functions_or, defining, declared, after_declaration, after_body, after_function, after_item, after_items}
+use Rattle.c_types.specs.Sources.{Source, number_of, functions_or, declared, after_declaration, after_body, after_function, after_item, after_items}
 use Rattle.c_types.specs.Tied.{IsTyped}
 use Rattle.lawful_laws.proofs.Statements.{earlier, tail, head}
 use Rattle.lawful_names.proofs.Clean.{Clean, AllNone, none-kept, untold, never, is_clean, when-clean}

@@ -15,7 +15,6 @@ use Rattle.c_tree.specs.declared.program.Item.TheVariants as items_of
 use Rattle.c_tree.specs.declared.program.Program.{Program}
 use Rattle.c_tree.specs.declared.statement.Block.{Block}
 use Rattle.c_typed.specs.declared.typed.Typed.{Typed}
-use Rattle.c_typed.specs.declared.typed.TypedFunction.{TypedFunction}
 use Rattle.c_seen.specs.declared.functions.Declaration.{Declaration}
 use Rattle.c_seen.specs.declared.seen.Seen.{Seen}
 use Rattle.c_seen.specs.declared.seen.Seen.TheVariants as seen
@@ -29,7 +28,7 @@ use Rattle.c_faults.specs.declared.limits.Quantity.TheVariants as of
 use Rattle.c_faults.specs.Faults.{limits}
 use Rattle.c_faults.specs.Limits.{amount, place, limit_of, is_by_function, is_function, left_at, past_or, first_past, passed}
 use Rattle.tied_names.specs.Ties.{Here}
-use Rattle.c_types.specs.Sources.{Source, number_of, declared, after_parameter, parameters_of, body_of, after_declaration, after_body, after_function, after_item, after_items}
+use Rattle.c_types.specs.Sources.{Source, number_of, after_parameter, parameters_of, after_declaration, after_body, after_function, after_item, after_items}
 use Rattle.c_types.specs.Tied.{IsTyped}
 use Rattle.lawful_sources.specs.Lawful.{has_few_parameters}
 use Rattle.lawful_sources.proofs.Passing.{Each, none, next, joined}

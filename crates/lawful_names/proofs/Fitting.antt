@@ -1,6 +1,6 @@
 -- What a test has to pass of things that stand where no fault is, so that it passes all that stands in a source.
-use Rattle.std.proofs.Common.{◌≡◌, ℕ, ◌+◌, ◌<◌, List, [], ◌∷◌, Bool, true, false, length, refl, subst}
-use Rattle.std.specs.Prelude.{ℤ, Option, Some, None, is_some, ◌&&◌, not, ◌==◌, codes, slice_get}
+use Rattle.std.proofs.Common.{◌≡◌, ℕ, List, Bool, true, false, length, refl, subst}
+use Rattle.std.specs.Prelude.{ℤ, Option, Some, None, is_some, codes, slice_get}
 use Rattle.std.specs.Str.{bytes_eq}
 use Rattle.sat_base.specs.declared.name.At.{At}
 use Rattle.sat_base.specs.declared.width.Width.{Width}

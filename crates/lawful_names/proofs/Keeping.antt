@@ -1,10 +1,8 @@
 -- What is kept of each function that was declared, from one item to the next: its number, what it gives and takes, and
 -- whether it has a definition.
-use Rattle.std.proofs.Common.{◌≡◌, ℕ, zero, suc, ◌+◌, ◌<◌, List, [], ◌∷◌, ◌++◌, Bool, true, false, map, length, refl, sym, ap, ◌∙◌, subst, inl, inr, arith}
-use Rattle.std.specs.Prelude.{Option, Some, None, is_some, ◌||◌, ◌&&◌, not, if◌then◌else◌, nat_lt, slice_get, slice_set}
+use Rattle.std.proofs.Common.{◌≡◌, ℕ, zero, suc, ◌<◌, List, [], ◌∷◌, ◌++◌, Bool, true, false, map, length, refl, sym, ap, ◌∙◌, subst, arith}
+use Rattle.std.specs.Prelude.{Option, Some, None, is_some, ◌||◌, not, if◌then◌else◌, slice_get, slice_set}
 use Rattle.std.specs.Str.{bytes_eq}
-use Rattle.std.proofs.lemmas.Bool.Decides.{nat_tests}
-use Rattle.std.proofs.lemmas.Option.{slice_get_within}
 use Rattle.std.proofs.lemmas.Slice.Eq.{bytes_eq-Decides}
 use Rattle.sat_base.specs.declared.name.At.{At}
 use Rattle.sat_base.specs.declared.name.Named.{Named}
@@ -13,8 +11,6 @@ use Rattle.c_scopes.specs.Scopes.{Known, meaning_of}
 use Rattle.c_tree.specs.declared.function.Function.{Function}
 use Rattle.c_tree.specs.declared.function.Param.{Param}
 use Rattle.c_tree.specs.declared.program.Item.{Item}
-use Rattle.c_tree.specs.declared.statement.Block.{Block}
-use Rattle.c_typed.specs.declared.statement.TypedBlock.{TypedBlock}
 use Rattle.c_typed.specs.declared.typed.Typed.{Typed}
 use Rattle.c_typed.specs.declared.typed.TypedFunction.{TypedFunction}
 use Rattle.operator_meaning.specs.declared.object.Object.{Object}
@@ -22,9 +18,8 @@ use Rattle.predefined_calls.specs.Calls.{callee_of}
 use Rattle.c_seen.specs.declared.functions.Declaration.{Declaration}
 use Rattle.c_seen.specs.declared.seen.Meaning.{Meaning}
 use Rattle.c_seen.specs.declared.seen.Meaning.TheVariants as means
-use Rattle.c_seen.specs.declared.seen.Seen.{Seen}
 use Rattle.c_seen.specs.declared.seen.Seen.TheVariants as seen
-use Rattle.c_seen.specs.Functions.{function_at, functions_of, is_defined, defined_by, is_alike, is_unlike, differs, differs_from, declaring_function}
+use Rattle.c_seen.specs.Functions.{function_at, is_defined, defined_by, is_alike, is_unlike, differs_from}
 use Rattle.c_seen.specs.Meanings.{is_own}
 use Rattle.c_seen.specs.Sources.{function_seen}
 use Rattle.c_faults.specs.Rows.{at_if}
@@ -32,11 +27,12 @@ use Rattle.tied_names.specs.declared.tie.Tie.{Tie}
 use Rattle.tied_names.specs.declared.tie.Tie.TheVariants as ties
 use Rattle.tied_names.specs.declared.tie.TiedObject.{TiedObject}
 use Rattle.tied_names.specs.Ties.{Here, tied_or}
-use Rattle.c_types.specs.Sources.{function_number, declared, defined, parameter_of, after_named, after_parameter, parameters_of, number_or, functions_or, defining}
-use Rattle.lawful_names.proofs.Agreement.{Sort, sort_of, sorts, IsParameter, AreParameters, IsFunction}
+use Rattle.c_types.specs.Sources.{function_number, declared, parameter_of, after_named, after_parameter, parameters_of, number_or, functions_or}
+use Rattle.lawful_names.proofs.Agreement.{sort_of, sorts, AreParameters}
 use Rattle.lawful_names.proofs.Alike.{alike-gives, alike-sorts}
 use Rattle.lawful_names.proofs.Clean.{Clean, never}
 use Rattle.lawful_names.proofs.Within.{Within, within-more, at-length, stands-last, parameters-grow}
+use Rattle.lawful_names.proofs.Truths.{or-right}
 
 -- what is in scope at file scope, as it is seen and as it is tied, with the functions on both sides
 pub record State : Type 0 where
@@ -87,10 +83,6 @@ passed n name one known apart = if-false (bytes_eq n name) (Some one) (meaning_o
 
 pub found : {A : Type 0} (n name : List ℕ) (one : Declared A) (known : List (Known A)) → bytes_eq n name ≡ true → meaning_of ((n, one) ∷ known) name ≡ Some one
 found n name one known same = if-true (bytes_eq n name) (Some one) (meaning_of known name) same
-
-or-true : (a b : Bool) → b ≡ true → (a || b) ≡ true
-or-true true b p = refl
-or-true false b p = p
 
 -- ---- lists of functions
 
@@ -177,7 +169,7 @@ module _ (source : Typed) (items : List Item) where
   kept-name n name at number of st same c k =
       let is : n ≡ name = (bytes_eq-Decides n name).0 same in
       let own : is_own 0 false (meaning_of st.seen n) ≡ true = ap (λ (x : List ℕ). is_own 0 false (meaning_of st.seen x)) is ∙ ap (is_own 0 false) k.scoped in
-      absurd (never at (subst (λ (b : Bool). at_if b at ≡ None) (or-true (is_some (callee_of n)) _ own) c.duplicate))
+      absurd (never at (subst (λ (b : Bool). at_if b at ≡ None) (or-right (is_some (callee_of n)) _ own) c.duplicate))
 
   object-keeps-by : (n name : List ℕ) (same : Bool) → bytes_eq n name ≡ same → (at : At) (number : ℕ) (of : Function) (st : State) (one : Declared Meaning) (tied : TiedObject)
       → Clean (seen.Name at (is_some (callee_of n) || is_own 0 false (meaning_of st.seen n))) → Keeps source items name number of st → Keeps source items name number of (with_object st n one tied)

@@ -39,3 +39,4 @@ pub mod FewParameters
 pub mod NoFunctionsInside
 pub mod OwnFew
 pub mod OwnObjects
+pub mod Truths

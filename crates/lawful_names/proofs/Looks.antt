@@ -1,11 +1,10 @@
 -- What stands in each expression, place and argument: one equation for each.
-use Rattle.std.proofs.Common.{◌≡◌, ℕ, List, map, sym, ap, ◌∙◌}
+use Rattle.std.proofs.Common.{◌≡◌, ℕ, sym, ap, ◌∙◌}
 use Rattle.std.specs.Prelude.{ℤ, Option}
 use Rattle.sat_base.specs.declared.name.At.{At}
 use Rattle.sat_base.specs.declared.width.Width.{Width}
 use Rattle.c_tree.specs.declared.expression.BinaryMark.{BinaryMark}
 use Rattle.c_tree.specs.declared.expression.UnaryMark.{UnaryMark}
-use Rattle.c_typed.specs.declared.call.TypedArg.{TypedArg}
 use Rattle.c_typed.specs.declared.call.TypedArg.TheOpen as node
 use Rattle.c_typed.specs.declared.call.TypedArg.TheFolds.{fold-roll-TypedArg, fold-roll-TypedExprKind, fold-roll-TypedPlace}
 use Rattle.c_typed.specs.declared.call.TypedArg.TheVariants as argument

@@ -1,12 +1,12 @@
 -- A source without a fault has a definition of main, which is a function of the source.
-use Rattle.std.proofs.Common.{◌≡◌, ℕ, zero, suc, ◌+◌, List, [], ◌∷◌, ◌++◌, Bool, true, false, map, length, refl, sym, ap, ◌∙◌, subst}
+use Rattle.std.proofs.Common.{◌≡◌, ℕ, zero, suc, ◌+◌, List, [], ◌∷◌, Bool, true, false, map, length, refl, sym, ap, ◌∙◌, subst}
 use Rattle.std.specs.Prelude.{Option, Some, None, is_some, not, ◌&&◌, ◌||◌, ◌==◌, slice_get, codes}
-use Rattle.std.specs.List.{list_all, list_any}
+use Rattle.std.specs.List.{list_any}
 use Rattle.std.specs.Str.{bytes_eq}
 use Rattle.sat_base.specs.declared.name.At.{At}
 use Rattle.sat_base.specs.declared.width.Width.{Width}
 use Rattle.sat_base.specs.declared.width.Width.TheVariants.{W16, W32}
-use Rattle.c_scopes.specs.Scopes.{Known, meaning_of}
+use Rattle.c_scopes.specs.Scopes.{Known}
 use Rattle.c_tree.specs.declared.function.Function.{Function}
 use Rattle.c_tree.specs.declared.function.Param.{Param}
 use Rattle.c_tree.specs.declared.program.Item.{Item}
@@ -35,12 +35,9 @@ use Rattle.lawful_names.proofs.Keeping.{passed, found}
 use Rattle.lawful_names.proofs.Reached.{Reached, Steps, steps, function-own, next-reached, at-end}
 use Rattle.lawful_names.proofs.Sources.{reached, start_of, names_at_start}
 use Rattle.std.proofs.lemmas.Slice.Eq.{bytes_eq-Decides}
+use Rattle.lawful_names.proofs.Truths.{or-right}
 
 -- ---- a definition stays
-
-or-right : (a b : Bool) → b ≡ true → (a || b) ≡ true
-or-right true b p = refl
-or-right false b p = p
 
 stays-by : (items : List Item) (g : Function) (name : List ℕ) (same : Bool) → bytes_eq g.name.name name ≡ same → (before : List (Known Declaration)) (item : ℕ) → is_defined before name ≡ true → is_defined (declaring_function items before item g) name ≡ true
 stays-by items g name true is before item p =

@@ -1,5 +1,5 @@
 -- The objects that a statement declares, measured by what is seen of it: inductions over statements.
-use Rattle.std.proofs.Common.{◌≡◌, ℕ, suc, ◌+◌, ◌≤◌, List, [], ◌∷◌, ◌++◌, Bool, true, false, map, length, refl, sym, ap, ◌∙◌, subst, arith}
+use Rattle.std.proofs.Common.{◌≡◌, ℕ, suc, ◌+◌, ◌≤◌, List, [], ◌∷◌, ◌++◌, Bool, true, false, map, length, sym, subst, arith}
 use Rattle.std.specs.Prelude.{nat_lt, Option, Some, None}
 use Rattle.std.proofs.lemmas.Bool.Decides.{nat_tests}
 use Rattle.sat_base.specs.declared.width.Width.{Width}
@@ -133,9 +133,9 @@ module _ (sound : Seen → Bool) (measure : Object → ℕ) (cost : Seen → ℕ
     on_statement (node.If at cond one (Some other)) = subst StatementMeasures (sym (stmt.rolls-If at cond one.0 (Some other.0))) (λ here result names depth in_loop gives deep.
         step _ here result names depth in_loop gives _ _ (ties.tied-Else at cond one.0 other.0 here _) (sees.sees-If at cond one.0 (Some other.0) names _)
         (λ p.
-            let parts : Each sound (seen_in_statement one.0 names (spot depth in_loop gives) ++ seen_in_statement other.0 names (spot depth in_loop gives)) = later sound (number names cond) _ (tail sound _ _ p) in
-            in-tail _ _ _ _ (in-right _ _ (number names cond) _ (in-both _ _ _ (seen_in_statement one.0 names (spot depth in_loop gives)) _ (one.1 here result names depth in_loop gives deep (earlier sound _ _ parts))
-            (other.1 (with_objects here (tied_statement one.0 here (inside_of result)).objects) result names depth in_loop gives deep (later sound (seen_in_statement one.0 names (spot depth in_loop gives)) _ parts))))))
+        let parts : Each sound (seen_in_statement one.0 names (spot depth in_loop gives) ++ seen_in_statement other.0 names (spot depth in_loop gives)) = later sound (number names cond) _ (tail sound _ _ p) in
+        in-tail _ _ _ _ (in-right _ _ (number names cond) _ (in-both _ _ _ (seen_in_statement one.0 names (spot depth in_loop gives)) _ (one.1 here result names depth in_loop gives deep (earlier sound _ _ parts))
+        (other.1 (with_objects here (tied_statement one.0 here (inside_of result)).objects) result names depth in_loop gives deep (later sound (seen_in_statement one.0 names (spot depth in_loop gives)) _ parts))))))
     on_statement (node.While at cond body) = subst StatementMeasures (sym (stmt.rolls-While at cond body.0)) (λ here result names depth in_loop gives deep.
         step _ here result names depth in_loop gives _ _ (ties.tied-While at cond body.0 here _) (sees.sees-While at cond body.0 names _)
         (λ p. in-tail _ _ _ _ (in-right _ _ (number names cond) _ (body.1 here result names depth true gives deep (later sound (number names cond) _ (tail sound _ _ p))))))

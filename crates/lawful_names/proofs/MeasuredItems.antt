@@ -1,7 +1,6 @@
 -- The objects of a source, measured by what is seen, item by item.
-use Rattle.std.proofs.Common.{◌≡◌, ℕ, ◌+◌, ◌≤◌, List, [], ◌∷◌, ◌++◌, Bool, true, false, length, refl, sym, ap, ◌∙◌, subst, arith}
+use Rattle.std.proofs.Common.{◌≡◌, ℕ, ◌+◌, ◌≤◌, List, [], ◌∷◌, ◌++◌, Bool, true, false, length, refl, ap, arith}
 use Rattle.std.specs.Prelude.{Option, Some, None, is_some, slice_get}
-use Rattle.sat_base.specs.declared.name.Named.{Named}
 use Rattle.c_scopes.specs.Scopes.{Known}
 use Rattle.c_tree.specs.declared.declaration.Decl.{Decl}
 use Rattle.c_tree.specs.declared.function.Function.{Function}
@@ -16,14 +15,14 @@ use Rattle.c_seen.specs.declared.seen.Seen.{Seen}
 use Rattle.c_seen.specs.declared.seen.Seen.TheVariants as seen
 use Rattle.c_seen.specs.Declarations as scope
 use Rattle.c_seen.specs.Declarations.{object, parameter, dimension, name_of_parameter, seen_in_declared, seen_in_objects, seen_in_parameter, seen_in_parameters, after_parameters}
-use Rattle.c_seen.specs.Meanings.{Names, is_taken}
+use Rattle.c_seen.specs.Meanings.{Names}
 use Rattle.c_seen.specs.Sources as seen_sources
 use Rattle.c_seen.specs.Sources.{function_seen, seen_in_parts, seen_in_body, seen_in_function, seen_in_items, functions_after}
 use Rattle.tied_names.specs.Numbers.{is_exposed}
 use Rattle.tied_names.specs.Ties.{Here}
 use Rattle.tied_objects.specs.Objects.{object_of, object_of_parameter}
 use Rattle.tied_statements.specs.Declarations.{after_declared, after_objects}
-use Rattle.c_types.specs.Sources.{Source, number_of, parameter_of, after_parameter, parameters_of, inside_of, after_declaration, after_body, after_function, after_item, after_items}
+use Rattle.c_types.specs.Sources.{Source, number_of, parameter_of, after_parameter, parameters_of, after_declaration, after_body, after_function, after_item, after_items}
 use Rattle.lawful_sources.specs.Objects.{is_complete}
 use Rattle.lawful_sources.proofs.Passing.{Each}
 use Rattle.lawful_laws.proofs.Statements.{earlier, later, tail, head}

@@ -1,5 +1,5 @@
 -- No function is seen in an expression: an induction over the tree.
-use Rattle.std.proofs.Common.{◌≡◌, ℕ, ◌+◌, List, [], ◌∷◌, ◌++◌, Bool, true, false, map, refl, sym, ap, ◌∙◌, subst}
+use Rattle.std.proofs.Common.{◌≡◌, ℕ, ◌+◌, List, [], ◌∷◌, ◌++◌, Bool, true, false, map, refl, sym, subst}
 use Rattle.std.specs.Prelude.{ℤ, negsuc, Option, Some, None, not, if◌then◌else◌}
 use Rattle.std.specs.Ordering.{int_eq}
 use Rattle.sat_base.specs.declared.name.At.{At}
@@ -8,7 +8,6 @@ use Rattle.c_tree.specs.declared.call.Arg.TheOpen as node
 use Rattle.c_tree.specs.declared.call.Arg.TheVariants as arg
 use Rattle.c_tree.specs.declared.call.Call.{Call, ind-Call, roll-Call}
 use Rattle.c_tree.specs.declared.declaration.Dim.{Dim}
-use Rattle.c_tree.specs.declared.expression.BinaryMark.{BinaryMark}
 use Rattle.c_tree.specs.declared.expression.Expr.{Expr, roll-Expr}
 use Rattle.c_tree.specs.declared.expression.ExprKind.{ExprKind, ind-ExprKind, map-ExprKind, roll-ExprKind}
 use Rattle.c_tree.specs.declared.expression.ExprKind.TheVariants as kind
@@ -23,8 +22,8 @@ use Rattle.c_seen.specs.declared.seen.Seen.{Seen}
 use Rattle.c_seen.specs.declared.seen.Seen.TheVariants as seen
 use Rattle.c_seen.specs.declared.seen.Wanted.{Wanted}
 use Rattle.c_seen.specs.Declarations.{dimension, number_if_any}
-use Rattle.c_seen.specs.Expressions.{is_relation, no_view, opposite, constants_in, seen_in_expression, seen_in_kind, constant_of_kind, integer_of_kind, seen_in_place, seen_in_call, seen_in_argument, arguments_from}
-use Rattle.c_seen.specs.Meanings.{Names, meaning, wanted_at, need_of}
+use Rattle.c_seen.specs.Expressions.{is_relation, no_view, opposite, seen_in_expression, seen_in_kind, constant_of_kind, integer_of_kind, seen_in_place, seen_in_call, seen_in_argument, arguments_from}
+use Rattle.c_seen.specs.Meanings.{Names, meaning, wanted_at}
 use Rattle.c_seen.proofs.Expressions_seen as sees
 use Rattle.c_faults.specs.Limits.{is_function}
 use Rattle.lawful_sources.proofs.Passing.{Each, none, next, joined}

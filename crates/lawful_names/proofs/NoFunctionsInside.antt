@@ -1,6 +1,6 @@
 -- No function is seen in a block: an induction over statements.
-use Rattle.std.proofs.Common.{◌≡◌, ℕ, List, [], ◌∷◌, ◌++◌, Bool, true, map, refl, sym, subst}
-use Rattle.std.specs.Prelude.{flat_map, nat_lt, Option, Some, None}
+use Rattle.std.proofs.Common.{◌≡◌, ℕ, List, [], ◌∷◌, true, map, refl, sym, subst}
+use Rattle.std.specs.Prelude.{flat_map, Option, Some, None}
 use Rattle.c_tree.specs.declared.declaration.Decl.{Decl}
 use Rattle.c_tree.specs.declared.declaration.Init.{Init}
 use Rattle.c_tree.specs.declared.declaration.Init.TheVariants as init

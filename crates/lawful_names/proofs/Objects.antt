@@ -1,15 +1,12 @@
 -- The objects of a source have shapes, by what is seen of their declarations.
-use Rattle.std.proofs.Common.{◌≡◌, ℕ, List, [], ◌∷◌, Bool, true, false, map, refl, sym, ap, ◌∙◌}
-use Rattle.std.specs.Prelude.{not, ◌&&◌, ◌||◌, ◌==◌, if◌then◌else◌, Option, Some, None}
+use Rattle.std.proofs.Common.{◌≡◌, ℕ, [], ◌∷◌, Bool, true, false, refl, sym, ap, ◌∙◌}
+use Rattle.std.specs.Prelude.{not, ◌&&◌, ◌||◌, ◌==◌, if◌then◌else◌, Some, None}
 use Rattle.std.specs.List.{list_all}
-use Rattle.c_tree.specs.declared.declaration.Decl.{Decl}
 use Rattle.c_tree.specs.declared.program.Program.{Program}
 use Rattle.c_typed.specs.declared.typed.Typed.{Typed}
-use Rattle.operator_meaning.specs.declared.object.Object.{Object}
 use Rattle.operator_meaning.specs.declared.object.Storage.TheVariants.{Static, Automatic}
 use Rattle.c_seen.specs.declared.seen.Kind.{Kind}
 use Rattle.c_seen.specs.declared.seen.Kind.TheVariants as kinds
-use Rattle.c_seen.specs.declared.seen.Seen.{Seen}
 use Rattle.c_seen.specs.Functions.{is_view}
 use Rattle.c_seen.specs.Meanings.{kind_of}
 use Rattle.c_seen.specs.Sources.{seen_in_items, end_of, seen_of}
@@ -20,9 +17,8 @@ use Rattle.lawful_sources.proofs.Passing.{Each}
 use Rattle.lawful_laws.proofs.Objects.{HoldsOfObjects, items-hold}
 use Rattle.lawful_laws.proofs.Statements.{earlier}
 use Rattle.lawful_names.specs.Spelled.{AllSpelled}
-use Rattle.lawful_names.proofs.Declarations.{Shapes}
 use Rattle.lawful_names.proofs.Faultless.{seen-clean}
-use Rattle.lawful_names.proofs.Shapes.{shows, Shaped, is_sound, all-sound, sound-shapes}
+use Rattle.lawful_names.proofs.Shapes.{shows, is_sound, all-sound, sound-shapes}
 use Rattle.lawful_names.proofs.Sources.{start_of, names_at_start}
 
 abbrev shown : Kind → Bool → Bool → Bool → Bool

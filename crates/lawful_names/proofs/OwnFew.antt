@@ -1,6 +1,6 @@
 -- What is counted in each function by itself: the objects of a function are those of its one definition.
-use Rattle.std.proofs.Common.{◌≡◌, ℕ, zero, suc, ◌+◌, ◌-◌, ◌≤◌, List, [], ◌∷◌, ◌++◌, Bool, true, false, length, refl, sym, ap, ◌∙◌, subst, append_assoc, arith}
-use Rattle.std.specs.Prelude.{Option, Some, None, is_some, ◌||◌, ◌&&◌, ◌==◌, if◌then◌else◌, nat_lt, slice_get}
+use Rattle.std.proofs.Common.{◌≡◌, ℕ, zero, suc, ◌+◌, ◌-◌, ◌≤◌, List, [], ◌∷◌, ◌++◌, Bool, true, false, refl, sym, ap, ◌∙◌, subst, append_assoc, arith}
+use Rattle.std.specs.Prelude.{Option, Some, None, is_some, ◌&&◌, ◌==◌, if◌then◌else◌, nat_lt, slice_get}
 use Rattle.std.proofs.lemmas.Bool.{eqb-true, eq-eqb}
 use Rattle.sat_base.specs.declared.name.At.{At}
 use Rattle.c_scopes.specs.Scopes.{Known}
@@ -22,7 +22,7 @@ use Rattle.c_seen.specs.Meanings.{Names, is_taken}
 use Rattle.c_seen.specs.Sources as seen_sources
 use Rattle.c_seen.specs.Sources.{function_seen, seen_in_body, seen_in_function, seen_in_items, functions_after, seen_in_parts}
 use Rattle.c_faults.specs.declared.limits.Quantity.{Quantity}
-use Rattle.c_faults.specs.Limits.{amount, limit_of, is_by_function, left_at, past_or, first_past}
+use Rattle.c_faults.specs.Limits.{amount, limit_of, is_by_function, left_at, first_past}
 use Rattle.c_faults.specs.Rows.{at_if}
 use Rattle.tied_objects.specs.Objects.{object_of}
 use Rattle.tied_statements.specs.Declarations.{after_objects}
@@ -32,7 +32,7 @@ use Rattle.lawful_sources.proofs.Passing.{Each, next, joined}
 use Rattle.lawful_laws.proofs.Statements.{earlier, tail}
 use Rattle.lawful_names.proofs.Clean.{Clean, never}
 use Rattle.lawful_names.proofs.FewParameters.{Remains, remains, past-later, inner-spent, parameters-inner}
-use Rattle.lawful_names.proofs.Keeping.{Entry, own_functions, entry-of}
+use Rattle.lawful_names.proofs.Keeping.{Entry, entry-of}
 use Rattle.lawful_names.proofs.MeasuredItems.{MeasuresOf, file-measure, parts-measure}
 use Rattle.lawful_names.proofs.NoFunctions.{is_inner}
 use Rattle.lawful_names.proofs.NoFunctionsInside.{body-inner}
@@ -40,6 +40,7 @@ use Rattle.lawful_names.proofs.Owners.{free, no-cost}
 use Rattle.lawful_names.proofs.Reached.{Reached, state_of, Steps, steps, next-reached}
 use Rattle.lawful_names.proofs.Spent.{spent}
 use Rattle.lawful_names.proofs.Totals.{total}
+use Rattle.lawful_names.proofs.Truths.{or-left, both-ways}
 
 -- a function that is declared alone is not complete
 declared-incomplete : (functions : List TypedFunction) (g : Function) (n : ℕ) → is_complete (slice_get (functions ++ declared g ∷ []) n) ≡ is_complete (slice_get functions n)
@@ -56,20 +57,6 @@ first-definition : (body defined : Bool) (at : At) → body ≡ true → at_if (
 first-definition true true at p q = absurd (never at q)
 first-definition true false at p q = refl
 first-definition false defined at p q = cc
-
-one-or : (a b : Bool) → a ≡ true → (a || b) ≡ true
-one-or true b p = refl
-one-or false b p = cc
-
-both-ways : {A : Type 0} (b : Bool) → b ≡ true → b ≡ false → A
-both-ways true p q = let wrong : true ≡ false = q in absurd (apart wrong)
-  where
-    apart : true ≡ false → ⊥
-    apart r = cc
-both-ways false p q = let wrong : false ≡ true = p in absurd (apart wrong)
-  where
-    apart : false ≡ true → ⊥
-    apart r = cc
 
 -- what is counted, and how much an object of the function of this number counts
 pub record Counting (sound : Seen → Bool) (quantity : Quantity) (n : ℕ) (measure : Object → ℕ) : Type 0 where
@@ -136,7 +123,7 @@ module _ (source : Typed) (items : List Item) (sound : Seen → Bool) (clean : (
       let begun : Own (after_declaration s item g) = record { few = o.few; fresh = λ q. o.fresh (sym (or-incomplete _ s.functions g n) ∙ q) } in
       mine-body (after_declaration s item g) (number_of s g) g g.body inside same
       (λ b. ap (λ (m : ℕ). is_complete (slice_get (after_declaration s item g).functions m)) (sym same) ∙ ap is_complete e.stands ∙ e.complete ∙ first-definition (is_some g.body) (is_defined before g.name.name) g.name.at b t.tells.second)
-      (λ b. ap (λ (m : ℕ). is_complete (slice_get (after_function s item g).functions m)) (sym same) ∙ ap is_complete t.ends.entry.stands ∙ t.ends.entry.complete ∙ one-or (is_some g.body) _ b) begun parts most
+      (λ b. ap (λ (m : ℕ). is_complete (slice_get (after_function s item g).functions m)) (sym same) ∙ ap is_complete t.ends.entry.stands ∙ t.ends.entry.complete ∙ or-left (is_some g.body) _ b) begun parts most
 
   own-items : (s : Source) (names : Names) (before : List (Known Declaration)) (item : ℕ) (list : List Item) (ends : List Seen) → Reached source items sound clean s names before item list → Remains quantity (seen_in_items names before item list ++ ends)
       → Own s → Own (after_items s item list)

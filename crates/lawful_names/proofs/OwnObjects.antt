@@ -1,18 +1,15 @@
 -- The scalars and the views of each function of a source that passes no limit are few.
-use Rattle.std.proofs.Common.{◌≡◌, ℕ, ◌+◌, ◌≤◌, List, [], ◌∷◌, ◌++◌, Bool, true, false, length, refl, sym, ap, ◌∙◌, arith}
-use Rattle.std.specs.Prelude.{Option, Some, None, is_none, not, ◌&&◌, ◌==◌, if◌then◌else◌}
-use Rattle.std.specs.List.{filter, list_all}
+use Rattle.std.proofs.Common.{◌≡◌, ℕ, ◌≤◌, [], ◌∷◌, Bool, true, false, length, refl, sym, ap, arith}
+use Rattle.std.specs.Prelude.{Some, is_none, not, ◌&&◌, ◌==◌, if◌then◌else◌}
+use Rattle.std.specs.List.{filter}
 use Rattle.std.proofs.lemmas.Bool.{eqb-true}
 use Rattle.sat_base.specs.declared.fault.FaultKind.TheVariants as fault
 use Rattle.sat_base.specs.declared.limits.TheConstants.{SCALARS, VIEWS}
-use Rattle.c_tree.specs.declared.declaration.Dim.{Dim}
 use Rattle.c_tree.specs.declared.program.Program.{Program}
 use Rattle.c_typed.specs.declared.typed.Typed.{Typed}
-use Rattle.operator_meaning.specs.declared.object.Object.{Object}
 use Rattle.declared_objects.specs.Lengths.{is_array}
 use Rattle.c_seen.specs.declared.seen.Kind.{Kind}
 use Rattle.c_seen.specs.declared.seen.Kind.TheVariants as kinds
-use Rattle.c_seen.specs.declared.seen.Seen.{Seen}
 use Rattle.c_seen.specs.Functions.{is_view}
 use Rattle.c_seen.specs.Meanings.{kind_of}
 use Rattle.c_seen.specs.Sources.{seen_of, end_of}
@@ -29,9 +26,10 @@ use Rattle.lawful_names.specs.Spelled.{AllSpelled}
 use Rattle.lawful_names.proofs.Clean.{AllNone, none-kept, untold, is_clean, when-clean}
 use Rattle.lawful_names.proofs.Faultless.{seen-clean, no-limit}
 use Rattle.lawful_names.proofs.OwnFew.{Counting, own-few}
-use Rattle.lawful_names.proofs.Shapes.{kind_by, shows, is_sound, sound-clean, all-sound, sound-shapes}
+use Rattle.lawful_names.proofs.Shapes.{shows, is_sound, sound-clean, all-sound, sound-shapes}
 use Rattle.lawful_names.proofs.Sources.{reached, start_of, names_at_start}
 use Rattle.lawful_names.proofs.Totals.{total, one_if_passed, count-total}
+use Rattle.lawful_names.proofs.Truths.{is-false}
 
 -- ---- one object
 
@@ -50,10 +48,6 @@ and-false false b p = refl
 false-and : (a b : Bool) → a ≡ false → (a && b) ≡ false
 false-and true b p = cc
 false-and false b p = refl
-
-is-false : (b : Bool) → not b ≡ true → b ≡ false
-is-false true p = cc
-is-false false p = refl
 
 other-by : (n k : ℕ) (same : Bool) → (n == k) ≡ same → (k ≡ n → ⊥) → same ≡ false
 other-by n k true is apart = absurd (apart (sym (eqb-true n k is)))

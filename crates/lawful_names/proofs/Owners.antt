@@ -1,6 +1,6 @@
 -- The function of each object has a definition, and an object of no function is static.
-use Rattle.std.proofs.Common.{◌≡◌, ℕ, ◌+◌, ◌≤◌, List, [], ◌∷◌, ◌++◌, Bool, true, false, refl, ap, ◌∙◌, arith}
-use Rattle.std.specs.Prelude.{if◌then◌else◌, Option, Some, None, slice_get}
+use Rattle.std.proofs.Common.{◌≡◌, ℕ, ◌+◌, ◌≤◌, List, [], ◌∷◌, Bool, true, false, refl, ap, arith}
+use Rattle.std.specs.Prelude.{if◌then◌else◌}
 use Rattle.std.specs.List.{list_all}
 use Rattle.c_tree.specs.declared.program.Program.{Program}
 use Rattle.c_typed.specs.declared.typed.Typed.{Typed}
@@ -9,7 +9,7 @@ use Rattle.c_seen.specs.declared.seen.Seen.{Seen}
 use Rattle.c_seen.specs.Sources.{seen_in_items}
 use Rattle.c_types.specs.Sources.{after_items}
 use Rattle.c_types.specs.Tied.{IsTyped}
-use Rattle.lawful_sources.specs.Objects.{is_complete, has_function}
+use Rattle.lawful_sources.specs.Objects.{has_function}
 use Rattle.lawful_names.proofs.Clean.{is_clean, when-clean}
 use Rattle.lawful_names.proofs.Faultless.{seen-clean}
 use Rattle.lawful_names.proofs.MeasuredItems.{Measures, items-measure}

@@ -2,7 +2,6 @@
 use Rattle.std.proofs.Common.{◌≡◌, ℕ, ◌+◌, List, [], ◌∷◌, ◌++◌, Bool, true, length, refl, ap, ◌∙◌, subst}
 use Rattle.std.specs.Prelude.{Option, Some, None, nat_lt, slice_get}
 use Rattle.std.specs.List.{list_all}
-use Rattle.sat_base.specs.declared.name.Named.{Named}
 use Rattle.c_scopes.specs.Scopes.{Known}
 use Rattle.c_tree.specs.declared.function.Function.{Function}
 use Rattle.c_tree.specs.declared.function.Param.{Param}
@@ -15,12 +14,11 @@ use Rattle.c_typed.specs.declared.typed.TypedFunction.{TypedFunction}
 use Rattle.operator_meaning.specs.declared.object.Object.{Object}
 use Rattle.c_seen.specs.declared.functions.Declaration.{Declaration}
 use Rattle.c_seen.specs.declared.seen.Seen.{Seen}
-use Rattle.c_seen.specs.Functions.{declaring_function}
 use Rattle.c_seen.specs.Meanings.{Names}
 use Rattle.c_seen.specs.Sources as seen_sources
 use Rattle.c_seen.specs.Sources.{functions_after}
 use Rattle.tied_names.specs.Ties.{Here}
-use Rattle.c_types.specs.Sources.{Source, number_of, declared, defined, parameter_of, after_named, after_parameter, parameters_of, body_of, after_declaration, after_body, after_function, after_item, after_items}
+use Rattle.c_types.specs.Sources.{Source, number_of, declared, defined, parameter_of, after_parameter, parameters_of, body_of, after_declaration, after_body, after_function, after_item, after_items}
 use Rattle.c_types.specs.Tied.{IsTyped}
 use Rattle.lawful_sources.specs.Objects.{is_parameter_object, has_parameters}
 use Rattle.lawful_laws.proofs.Functions.{both}
@@ -65,5 +63,5 @@ pub parameters-stand : (program : Program) (source : Typed) → IsTyped program 
 parameters-stand program source is =
     ap (list_all (has_parameters source)) is.tied.functions
     ∙ functions-hold source program.items is_clean when-clean (has_parameters source) (λ g. refl)
-        (λ s number g body within. parameter-objects source s.here number g.params (within-more _ _ _ (block-grows body (parameters_of s.here number g.params).after _) within))
-        (start_of program source) (names_at_start program) [] 0 program.items (reached program source is_clean when-clean is.tied (seen-clean program is.faultless)) refl
+    (λ s number g body within. parameter-objects source s.here number g.params (within-more _ _ _ (block-grows body (parameters_of s.here number g.params).after _) within))
+    (start_of program source) (names_at_start program) [] 0 program.items (reached program source is_clean when-clean is.tied (seen-clean program is.faultless)) refl

@@ -1,6 +1,6 @@
 -- The lines about places fit: what is const is kept, and views have the width that is taken.
-use Rattle.std.proofs.Common.{◌≡◌, ℕ, List, Bool, true, false, refl, sym, ap, ◌∙◌, subst}
-use Rattle.std.specs.Prelude.{Option, Some, None, ◌&&◌, ◌||◌, not, if◌then◌else◌, slice_get}
+use Rattle.std.proofs.Common.{◌≡◌, List, Bool, true, false, refl, sym, ap, ◌∙◌}
+use Rattle.std.specs.Prelude.{Option, Some, None, ◌&&◌, ◌||◌, not, if◌then◌else◌}
 use Rattle.sat_base.specs.declared.name.At.{At}
 use Rattle.sat_base.specs.declared.width.Width.{Width}
 use Rattle.sat_base.specs.declared.width.Width.TheVariants.{W16, W32}
@@ -19,9 +19,7 @@ use Rattle.c_faults.specs.declared.shape.Shape.{Shape}
 use Rattle.c_faults.specs.declared.shape.Shape.TheVariants as shapes
 use Rattle.c_faults.specs.Rows.{at_if, gives_away, is_given}
 use Rattle.c_faults.specs.Shapes.{same_width as same_element, shape_of_object, is_function, is_view}
-use Rattle.tied_names.specs.declared.tie.TiedObject.{TiedObject}
 use Rattle.lawful_sources.specs.Rows.{if_object, keeps_const, const_is_kept, same_width, has_width, width_agrees}
-use Rattle.lawful_names.proofs.Agreement.{IsObject}
 use Rattle.lawful_names.proofs.Clean.{Clean, never}
 use Rattle.lawful_names.proofs.Fitting.{Purpose, Reads, Writes, Gives, use_of, place_seen, Fits}
 

@@ -2,13 +2,10 @@
 use Rattle.std.proofs.Common.{◌≡◌, ℕ, List, Bool, true, false, refl, sym}
 use Rattle.std.specs.Prelude.{Option, Some, None, if◌then◌else◌, codes}
 use Rattle.std.specs.Str.{bytes_eq}
-use Rattle.c_tree.specs.declared.program.Item.{Item}
 use Rattle.operator_meaning.specs.declared.operator.Op.{Op}
 use Rattle.c_typed.specs.declared.call.Callee.{Callee}
 use Rattle.c_typed.specs.declared.call.Callee.TheVariants as callees
 use Rattle.predefined_calls.specs.Calls.{callee_of, other_call, other_or, operator_of}
-use Rattle.tied_names.specs.declared.tie.Tie.{Tie}
-use Rattle.tied_names.specs.declared.tie.Tie.TheVariants as ties
 use Rattle.c_types.specs.Sources.{function_number}
 use Rattle.tied_names.specs.Ties.{tied_or}
 use Rattle.lawful_names.proofs.Agreement.{is_predefined}

@@ -1,6 +1,6 @@
 -- The items one after another, on both sides: what is kept of each function holds at the end of the source.
-use Rattle.std.proofs.Common.{◌≡◌, ℕ, suc, ◌+◌, List, [], ◌∷◌, ◌++◌, Bool, true, false, length, refl, sym, ap, ◌∙◌, subst, arith}
-use Rattle.std.specs.Prelude.{Option, Some, None, is_some, ◌||◌, nat_lt, slice_get}
+use Rattle.std.proofs.Common.{◌≡◌, ℕ, suc, ◌+◌, List, [], ◌∷◌, Bool, true, false, refl, sym, ap, ◌∙◌, subst, arith}
+use Rattle.std.specs.Prelude.{Option, Some, None, is_some, ◌||◌, slice_get}
 use Rattle.c_scopes.specs.Scopes.{Known}
 use Rattle.c_tree.specs.declared.declaration.Decl.{Decl}
 use Rattle.c_tree.specs.declared.function.Function.{Function}
@@ -27,7 +27,7 @@ use Rattle.lawful_laws.proofs.Statements.{earlier, later, head}
 use Rattle.lawful_names.proofs.Agreement.{IsFunction}
 use Rattle.lawful_names.proofs.Clean.{Clean}
 use Rattle.lawful_names.proofs.Defining.{Finished, finished, with_function, own-keeps, function-keeps, function-covers, kept-function}
-use Rattle.lawful_names.proofs.Keeping.{State, Keeps, Covers, object-keeps, object-covers, Entry, own_number, own_functions, entry-of}
+use Rattle.lawful_names.proofs.Keeping.{State, Keeps, Covers, object-keeps, object-covers, own_number, own_functions, entry-of}
 use Rattle.lawful_names.proofs.Within.{Within, within-itself, within-more, objects-grow, parameters-grow, block-grows}
 
 -- ---- the objects of the source grow

@@ -1,6 +1,6 @@
 -- Marks reach what they have to, in a source that the grammar allows.
-use Rattle.std.proofs.Common.{◌≡◌, ℕ, List, Bool, true, false, refl, sym, ap, ◌∙◌}
-use Rattle.std.specs.Prelude.{Option, Some, None, not, ◌&&◌, ◌||◌, ◌==◌, slice_get}
+use Rattle.std.proofs.Common.{◌≡◌, List, Bool, true, false, refl, ap, ◌∙◌}
+use Rattle.std.specs.Prelude.{Option, Some, not, ◌&&◌, ◌||◌, ◌==◌}
 use Rattle.sat_base.specs.declared.name.At.{At}
 use Rattle.sat_base.specs.declared.width.Width.{Width}
 use Rattle.c_tree.specs.declared.program.Item.{Item}
@@ -12,20 +12,18 @@ use Rattle.c_seen.specs.declared.seen.Marks.{Marks as SeenMarks}
 use Rattle.c_seen.specs.declared.seen.Marks.TheVariants as with_marks
 use Rattle.c_seen.specs.declared.seen.Meaning.TheVariants as means
 use Rattle.c_seen.specs.declared.seen.Seen.TheVariants as seen
-use Rattle.c_seen.specs.declared.seen.View.{View as SeenView}
 use Rattle.c_faults.specs.declared.shape.Shape.{Shape}
 use Rattle.c_faults.specs.declared.shape.Shape.TheVariants as shapes
 use Rattle.c_faults.specs.Rows.{is_given}
 use Rattle.c_faults.specs.Shapes.{shape_of_object, is_number}
-use Rattle.lawful_sources.specs.Things.{Taken}
 use Rattle.lawful_sources.specs.Rows.{if_object, reaches, reaches_number, reaches_view, place_fits}
 use Rattle.lawful_laws.proofs.Functions.{left, right}
 use Rattle.lawful_names.specs.Spelled.{is_star}
-use Rattle.lawful_names.proofs.Agreement.{IsObject}
-use Rattle.lawful_names.proofs.Clean.{Clean, never}
+use Rattle.lawful_names.proofs.Clean.{never}
 use Rattle.lawful_names.proofs.Fitting.{Purpose, Reads, Writes, Gives, marks_of, use_of, place_seen, Fits}
 use Rattle.lawful_names.proofs.Places.{IsGiven, clean_place, given-by}
-use Rattle.lawful_names.proofs.Shapes.{shows, Shaped, is_sound, sound-spelled}
+use Rattle.lawful_names.proofs.Shapes.{Shaped, is_sound, sound-spelled}
+use Rattle.lawful_names.proofs.Truths.{or-left, or-right, both-ways}
 
 -- ---- a number is read and written
 
@@ -77,14 +75,6 @@ no-table-of-view : (v b c : Bool) → (v && c) ≡ true → not (not v && not b)
 no-table-of-view true b c p = refl
 no-table-of-view false b c p = cc
 
-or-left : (a b : Bool) → a ≡ true → (a || b) ≡ true
-or-left true b p = refl
-or-left false b p = cc
-
-or-right : (a b : Bool) → b ≡ true → (a || b) ≡ true
-or-right true b p = refl
-or-right false b p = p
-
 number-reached : (kind : Kind) (marks : SeenMarks) (o : Object) → is_number (shape_of_object kind marks) ≡ true → Shaped kind o → reaches_number o (marks_of marks) ≡ true
 number-reached kinds.Scalar with_marks.None o p q = scalar-of o.view (o.rows == 0) (o.columns == 0) q
 number-reached kinds.Array with_marks.None o p q = cc
@@ -104,14 +94,8 @@ number-reached kinds.Table (with_marks.Star mark) o p q = cc
 number-reached kinds.View (with_marks.Star mark) o p q = line-of-view o.view (o.rows == 0) (o.columns == 0) _ q
 
 no-star : {A : Type 0} (ampersand : Bool) → ampersand ≡ true → not (ampersand && true) ≡ true → A
-no-star true p q = let never : false ≡ true = q in absurd (apart never)
-  where
-    apart : false ≡ true → ⊥
-    apart r = cc
-no-star false p q = let never : false ≡ true = p in absurd (apart never)
-  where
-    apart : false ≡ true → ⊥
-    apart r = cc
+no-star true p q = both-ways false q refl
+no-star false p q = both-ways false p refl
 
 view-reached : (kind : Kind) (marks : SeenMarks) (o : Object) (ampersand : Bool) → is_given (shape_of_object kind marks) ampersand ≡ true → not (ampersand && is_star marks) ≡ true → Shaped kind o → reaches_view o (marks_of marks) ≡ true
 view-reached kinds.Scalar with_marks.None o ampersand p s q = no-table o.view (o.rows == 0) (o.columns == 0) q

@@ -1,42 +1,29 @@
 -- The kind of an object shows in its numbers, and marks reach what they have to.
-use Rattle.std.proofs.Common.{◌≡◌, ℕ, zero, suc, ◌*◌, List, [], ◌∷◌, Bool, true, false, refl, sym, ap, ◌∙◌, subst, arith}
-use Rattle.std.specs.Prelude.{Option, Some, None, is_none, is_some, not, ◌&&◌, ◌||◌, ◌==◌, if◌then◌else◌, unwrap_or, option_map, slice_get}
+use Rattle.std.proofs.Common.{◌≡◌, ℕ, zero, suc, ◌*◌, List, [], ◌∷◌, Bool, true, false, refl, subst, arith}
+use Rattle.std.specs.Prelude.{Option, Some, None, is_none, is_some, not, ◌&&◌, ◌==◌, if◌then◌else◌, unwrap_or, option_map}
 use Rattle.std.specs.List.{list_all}
 use Rattle.std.proofs.lemmas.Bool.Decides.{nat_tests}
-use Rattle.sat_base.specs.declared.name.At.{At}
-use Rattle.sat_base.specs.declared.width.Width.{Width}
-use Rattle.c_tree.specs.declared.declaration.Decl.{Decl}
 use Rattle.c_tree.specs.declared.declaration.Dim.{Dim}
-use Rattle.c_tree.specs.declared.program.Item.{Item}
 use Rattle.c_tree.specs.declared.program.Program.{Program}
 use Rattle.c_typed.specs.declared.typed.Typed.{Typed}
 use Rattle.operator_meaning.specs.declared.object.Object.{Object}
-use Rattle.declared_objects.specs.Lengths.{length_in, is_array, columns_in, columns_of, rows_of, elements_in, elements_of}
+use Rattle.declared_objects.specs.Lengths.{length_in, is_array, columns_in, rows_of, elements_in}
 use Rattle.c_seen.specs.declared.seen.Kind.{Kind}
 use Rattle.c_seen.specs.declared.seen.Kind.TheVariants as kinds
-use Rattle.c_seen.specs.declared.seen.Marks.{Marks as SeenMarks}
-use Rattle.c_seen.specs.declared.seen.Marks.TheVariants as with_marks
-use Rattle.c_seen.specs.declared.seen.Meaning.TheVariants as means
 use Rattle.c_seen.specs.declared.seen.Seen.{Seen}
 use Rattle.c_seen.specs.declared.seen.Seen.TheVariants as seen
-use Rattle.c_seen.specs.declared.seen.View.{View as SeenView}
 use Rattle.c_seen.specs.Declarations.{object, elements_by}
 use Rattle.c_seen.specs.Functions.{is_view}
-use Rattle.c_seen.specs.Meanings.{kind_of}
 use Rattle.c_seen.specs.Sources.{seen_of}
-use Rattle.tied_objects.specs.Objects.{object_of, object_of_parameter}
 use Rattle.c_types.specs.Tied.{IsTyped}
 use Rattle.lawful_sources.specs.Things.{Thing}
 use Rattle.lawful_sources.specs.Lawful.{Everywhere}
-use Rattle.lawful_sources.specs.Objects.{is_scalar, is_table, is_line}
-use Rattle.lawful_sources.specs.Rows.{if_object, reaches, place_fits}
 use Rattle.lawful_laws.proofs.Functions.{both, left, right}
-use Rattle.lawful_names.specs.Spelled.{has_elements, is_star, is_spelled, AllSpelled}
-use Rattle.lawful_names.proofs.Agreement.{IsObject}
-use Rattle.lawful_names.proofs.Clean.{Clean, never, is_clean, when-clean}
+use Rattle.lawful_names.specs.Spelled.{has_elements, is_spelled, AllSpelled}
+use Rattle.lawful_names.proofs.Clean.{Clean, is_clean, when-clean}
 use Rattle.lawful_names.proofs.Declarations.{Shapes}
 use Rattle.lawful_names.proofs.Faultless.{seen-clean}
-use Rattle.lawful_names.proofs.Fitting.{Purpose, Reads, Writes, Gives, marks_of, use_of, place_seen, Fits}
+use Rattle.lawful_names.proofs.Fitting.{Fits}
 use Rattle.lawful_names.proofs.Sources.{stands-everywhere}
 
 -- ---- kinds

@@ -1,7 +1,6 @@
 -- What stands in a simple statement without a fault passes each test that fits.
-use Rattle.std.proofs.Common.{◌≡◌, ℕ, List, [], ◌∷◌, ◌++◌, Bool, true, false, refl, sym, ap, ◌∙◌, subst}
+use Rattle.std.proofs.Common.{◌≡◌, ℕ, List, [], ◌∷◌, Bool, true, false, refl, sym, ap, ◌∙◌, subst}
 use Rattle.std.specs.Prelude.{Option, Some, None, option_map, slice_get}
-use Rattle.sat_base.specs.declared.name.At.{At}
 use Rattle.sat_base.specs.declared.name.Named.{Named}
 use Rattle.sat_base.specs.declared.width.Width.{Width}
 use Rattle.sat_base.specs.declared.width.Width.TheVariants.{W32}
@@ -39,10 +38,10 @@ use Rattle.tied_expressions.proofs.Tied_equations as said
 use Rattle.tied_statements.specs.Statements.{name_in, assigned, tied_simple, tied_simples, tied_if_any, returned}
 use Rattle.lawful_sources.specs.Things.{Thing, Written}
 use Rattle.lawful_sources.specs.Expressions.{in_place, in_expression}
-use Rattle.lawful_sources.specs.Statements.{Spot, object_in, width_of, due_by, in_option, in_simple, in_simples, in_value, in_returned}
+use Rattle.lawful_sources.specs.Statements.{object_in, width_of, due_by, in_option, in_simple, in_simples, in_value, in_returned}
 use Rattle.lawful_sources.proofs.Passing.{Each, none, next, joined}
 use Rattle.lawful_laws.proofs.Statements.{earlier, later, head}
-use Rattle.lawful_names.proofs.Agreement.{Agrees, Near}
+use Rattle.lawful_names.proofs.Agreement.{Near}
 use Rattle.lawful_names.proofs.Clean.{Clean}
 use Rattle.lawful_names.proofs.Expressions.{converted, number-stands, place-stands, call-stands}
 use Rattle.lawful_names.proofs.Fitting.{Writes, Fits, NamesObject, place-names}

@@ -1,10 +1,8 @@
 -- What stands in a source without a fault passes each test that fits: item by item.
-use Rattle.std.proofs.Common.{◌≡◌, ℕ, zero, suc, ◌+◌, ◌<◌, List, [], ◌∷◌, ◌++◌, Bool, true, false, map, length, refl, sym, ap, ◌∙◌, subst, arith}
-use Rattle.std.specs.Prelude.{flat_map, Option, Some, None, is_some, if◌then◌else◌, nat_lt, slice_get, slice_set, ◌&&◌}
+use Rattle.std.proofs.Common.{◌≡◌, ℕ, zero, suc, ◌+◌, List, [], ◌∷◌, Bool, true, false, map, length, refl, ap, ◌∙◌, subst, arith}
+use Rattle.std.specs.Prelude.{flat_map, Option, Some, None, is_some, if◌then◌else◌, nat_lt, slice_get, slice_set}
 use Rattle.std.specs.List.{list_all}
 use Rattle.std.specs.Str.{bytes_eq}
-use Rattle.std.proofs.lemmas.Bool.{cases_Bool}
-use Rattle.std.proofs.lemmas.Bool.Decides.{nat_tests}
 use Rattle.std.proofs.lemmas.List.Folds.{list_all-append}
 use Rattle.std.proofs.lemmas.Slice.Eq.{bytes_eq-Decides}
 use Rattle.sat_base.specs.declared.name.Named.{Named}
@@ -31,12 +29,11 @@ use Rattle.c_seen.specs.Functions.{is_view, functions_of}
 use Rattle.c_seen.specs.Meanings.{Names}
 use Rattle.c_seen.specs.Sources as seen_sources
 use Rattle.c_seen.specs.Sources.{body_spot, seen_in_body, seen_in_function, seen_in_items, functions_after, end_of, seen_of}
-use Rattle.c_seen.specs.Statements.{seen_in_block}
 use Rattle.tied_names.specs.declared.tie.Tie.TheVariants as ties
 use Rattle.tied_names.specs.Numbers.{token_of, exposed_in}
 use Rattle.tied_names.specs.Ties.{Here}
 use Rattle.tied_statements.specs.Declarations.{tie_to, after_declared, after_objects}
-use Rattle.c_types.specs.Sources.{Source, number_of, functions_or, declared, defined, defining, parameter_of, after_named, after_parameter, parameters_of, inside_of, body_of, after_declaration, after_body, after_function, after_item, after_items, opening}
+use Rattle.c_types.specs.Sources.{Source, number_of, functions_or, declared, parameter_of, after_named, after_parameter, parameters_of, inside_of, after_declaration, after_body, after_function, after_item, after_items, opening}
 use Rattle.c_types.specs.Tied.{IsTied, notes_of}
 use Rattle.lawful_sources.specs.Things.{Thing}
 use Rattle.lawful_sources.specs.Statements.{in_function}
@@ -44,13 +41,13 @@ use Rattle.lawful_sources.specs.Lawful.{Everywhere}
 use Rattle.lawful_sources.proofs.Passing.{Each}
 use Rattle.lawful_laws.proofs.Functions.{both, left, right}
 use Rattle.lawful_laws.proofs.Statements.{earlier, later, tail}
-use Rattle.lawful_names.proofs.Agreement.{IsObject, IsFunction, Agrees, Near, is_predefined, is_pointing, newest-agrees, predefined-agrees}
+use Rattle.lawful_names.proofs.Agreement.{IsFunction, Near, is_pointing, newest-agrees, predefined-agrees}
 use Rattle.lawful_names.proofs.Clean.{Clean}
 use Rattle.lawful_names.proofs.Declarations.{Shapes, declared-near, object-sound}
 use Rattle.lawful_names.proofs.Fitting.{Fits}
-use Rattle.lawful_names.proofs.Keeping.{Covers, Fresh}
+use Rattle.lawful_names.proofs.Keeping.{Fresh}
 use Rattle.lawful_names.proofs.Predefined.{call-is-predefined, no-function}
-use Rattle.lawful_names.proofs.Reached.{Reached, within-source, state_of, Steps, steps, function-own, next-reached, at-end, body-grows, items-grow}
+use Rattle.lawful_names.proofs.Reached.{Reached, within-source, Steps, steps, function-own, next-reached, at-end}
 use Rattle.lawful_names.proofs.Statements.{still-near, block-stands}
 use Rattle.lawful_names.proofs.Within.{Within, within-more, stands-last, objects-grow, parameters-grow, block-grows}
 

@@ -1,6 +1,6 @@
 -- How an object of a block starts: with no value, or with one.
-use Rattle.std.proofs.Common.{◌≡◌, ℕ, List, Bool, true, false}
-use Rattle.std.specs.Prelude.{ℤ, Option, Some, None, ◌||◌}
+use Rattle.std.proofs.Common.{◌≡◌, ℕ, Bool, true, false}
+use Rattle.std.specs.Prelude.{ℤ, Option, Some, None}
 use Rattle.c_tree.specs.declared.call.Arg.{Arg}
 use Rattle.c_tree.specs.declared.declaration.Decl.{Decl}
 use Rattle.c_tree.specs.declared.declaration.Init.{Init}

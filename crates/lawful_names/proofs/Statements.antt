@@ -1,8 +1,6 @@
 -- What stands in a statement without a fault passes each test that fits: an induction over the tree.
-use Rattle.std.proofs.Common.{◌≡◌, ℕ, suc, List, [], ◌∷◌, ◌++◌, Bool, true, false, map, refl, sym, subst}
-use Rattle.std.specs.Prelude.{flat_map, Option, Some, None, is_some}
-use Rattle.sat_base.specs.declared.name.At.{At}
-use Rattle.sat_base.specs.declared.width.Width.{Width}
+use Rattle.std.proofs.Common.{◌≡◌, ℕ, suc, List, [], ◌∷◌, ◌++◌, Bool, true, map, sym, subst}
+use Rattle.std.specs.Prelude.{flat_map, Some, None, is_some}
 use Rattle.c_tree.specs.declared.expression.Expr.{Expr}
 use Rattle.c_tree.specs.declared.program.Item.{Item}
 use Rattle.c_tree.specs.declared.statement.Block.{Block, ind-Block, roll-Block}
@@ -45,7 +43,6 @@ still-near source items Shaped names here objects near = record { seen_items = n
 
 module _ (source : Typed) (items : List Item) (Shaped : Kind → Object → Type 0) (sound : Seen → Bool) (clean : (s : Seen) → sound s ≡ true → Clean s) (shapes : Shapes Shaped sound)
     (test : Thing → Bool) (fits : Fits source items Shaped sound test) where
-
   abbrev seen_spot : ℕ → Bool → Inside → SeenSpot
   seen_spot depth in_loop inside = record { depth = depth; in_loop = in_loop; gives = is_some inside.gives }
 
@@ -112,11 +109,11 @@ module _ (source : Typed) (items : List Item) (Shaped : Kind → Object → Type
   on_statement (node.For at firsts cond lasts body) = subst StatementStands (sym (stmt.rolls-For at firsts cond lasts body.0)) (λ names here inside depth in_loop near.
       step _ names here inside depth in_loop _ _ _ (ties.tied-For at firsts cond lasts body.0 here inside) (sees.sees-For at firsts cond lasts body.0 names _) (stands.statement-For source at _ _ _ _)
       (λ within p.
-          let beyond : Each sound (number_if_any names cond ++ (simples names lasts ++ seen_in_statement body.0 names (seen_spot depth true inside))) = later sound (simples names firsts) _ (tail sound _ _ p) in
-          first _ (joined test _ _ (simples-stand source items Shaped sound clean test fits firsts names here near (earlier sound _ _ (tail sound _ _ p)))
-          (joined test _ _ (value-if-any source items Shaped sound clean test fits cond names here near (earlier sound _ _ beyond))
-          (joined test _ _ (simples-stand source items Shaped sound clean test fits lasts names here near (earlier sound _ _ (later sound (number_if_any names cond) _ beyond)))
-          (body.1 names here inside depth true near within (later sound (simples names lasts) _ (later sound (number_if_any names cond) _ beyond))))))))
+      let beyond : Each sound (number_if_any names cond ++ (simples names lasts ++ seen_in_statement body.0 names (seen_spot depth true inside))) = later sound (simples names firsts) _ (tail sound _ _ p) in
+      first _ (joined test _ _ (simples-stand source items Shaped sound clean test fits firsts names here near (earlier sound _ _ (tail sound _ _ p)))
+      (joined test _ _ (value-if-any source items Shaped sound clean test fits cond names here near (earlier sound _ _ beyond))
+      (joined test _ _ (simples-stand source items Shaped sound clean test fits lasts names here near (earlier sound _ _ (later sound (number_if_any names cond) _ beyond)))
+      (body.1 names here inside depth true near within (later sound (simples names lasts) _ (later sound (number_if_any names cond) _ beyond))))))))
   on_statement (node.Break at) = subst StatementStands (sym (stmt.rolls-Break at)) (λ names here inside depth in_loop near.
       step _ names here inside depth in_loop _ _ _ (ties.tied-Break at here inside) (sees.sees-Break at names _) (stands.statement-Break source at) (λ within p. first _ (next test _ [] (fits.leaves in_loop) (none test))))
   on_statement (node.Continue at) = subst StatementStands (sym (stmt.rolls-Continue at)) (λ names here inside depth in_loop near.

@@ -1,6 +1,6 @@
 -- The value of a constant expression stays what it is once its names are tied: an induction over the tree.
-use Rattle.std.proofs.Common.{◌≡◌, ℕ, List, refl, sym, ap, ◌∙◌, subst}
-use Rattle.std.specs.Prelude.{ℤ, Option, Some, None}
+use Rattle.std.proofs.Common.{◌≡◌, refl, sym, ap, ◌∙◌, subst}
+use Rattle.std.specs.Prelude.{ℤ, Option, None}
 use Rattle.sat_base.specs.declared.name.At.{At}
 use Rattle.sat_base.specs.declared.width.Width.{Width}
 use Rattle.c_tree.specs.declared.call.Arg.{Arg, Value', Address, ind-Arg, map-Arg, roll-Arg}
