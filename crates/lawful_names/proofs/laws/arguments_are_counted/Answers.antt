@@ -1,0 +1,7 @@
+use Rattle.lawful_names.proofs.Faultless.{AnyShape, stands}
+use Rattle.lawful_names.proofs.Clean.{is_clean}
+use Rattle.lawful_names.proofs.Tests.{counts-fit}
+use Rattle.lawful_names.proofs.laws.arguments_are_counted.Goals as goal
+
+pub returns : goal.returns
+returns c = λ program typed is. stands program typed is _ (counts-fit typed program.items AnyShape is_clean)
