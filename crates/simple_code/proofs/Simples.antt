@@ -1,0 +1,232 @@
+-- The code of assignments and their like does what they do.
+use Rattle.std.proofs.Common.{◌≡◌, ◌≢◌, ℕ, ◌+◌, ◌≤◌, ℤ, pos, true, false, ◌==◌, List, [], ◌∷◌, ◌++◌, length, length-append, refl, sym, ap, ◌∙◌, subst, inl, inr, arith}
+use Rattle.std.specs.Prelude.{Option, Some, None, slice_get, FitsSigned}
+use Rattle.std.specs.Int.{w32, int_wrapping_add}
+use Rattle.std.proofs.lemmas.Bool.{cases_Bool, eqb-true}
+use Rattle.std.proofs.lemmas.Bool.Decides.{nat_tests}
+use Rattle.std.proofs.lemmas.Int.{ints}
+use Rattle.sat_base.specs.Clip.{low16}
+use Rattle.sat_base.specs.declared.width.Width.{Width}
+use Rattle.c_tree.specs.declared.simple.AssignMark.TheVariants as assign
+use Rattle.operator_meaning.specs.declared.object.Object.{Object}
+use Rattle.source_runs.specs.Calls.{sample_out}
+use Rattle.source_runs.specs.Marks.{assigned}
+use Rattle.source_runs.specs.Runs.{Run, gives, ◌>>=◌, ◌>>◌, changing, reading}
+use Rattle.source_runs.specs.Shapes.{shape_of}
+use Rattle.source_runs.specs.State.{SourceState, converted, written, location, counted, put, with_overflow}
+use Rattle.typed_meaning.specs.Expressions.{Setting, Called}
+use Rattle.typed_meaning.specs.Statements.{assignment_meaning}
+use Rattle.ir_arena.specs.Tree.{IrTree, Write, WriteFlag, Out, AddCount, Variable}
+use Rattle.tree_meaning.specs.Trees.{node_meaning, value_meaning}
+use Rattle.rv_encode.specs.declared.instruction.Instr.{Instr}
+use Rattle.rv_encode.specs.declared.instruction.Instr.TheVariants.{Addi, Ecall}
+use Rattle.rv_encode.specs.State.{MachineState, Running, register, next_pc}
+use Rattle.rv_encode.specs.Effects.{calls, effect_of}
+use Rattle.rv_encode.proofs.Leads.{leads_then, leads_in}
+use Rattle.template_runs.specs.Machine.{StandHere, IsBefore}
+use Rattle.code_lines.proofs.Lines.{lines_run, next_is, next_place}
+use Rattle.code_memory.specs.Memory.{store_code, IsStored}
+use Rattle.code_memory.proofs.Accesses.{stores_are_done}
+use Rattle.code_runs.specs.Doing.{Bond, Comes, Does}
+use Rattle.code_runs.proofs.Parts.{in_turn}
+use Rattle.code_runs.proofs.Steps.{leads_later, leads_still}
+use Rattle.code_stacks.specs.Places.{Layout, IsLaidOut}
+use Rattle.code_stacks.specs.Agreement.{Agrees, IsWith, With}
+use Rattle.code_stacks.proofs.Keeping.{IsSpare, keeps_registers, agrees_kept, variable_at}
+use Rattle.code_stacks.proofs.Operands.{first_stands, second_stands}
+use Rattle.expression_code.specs.Code.{convert_code, fits_sixteen, expression_code, weight_of}
+use Rattle.expression_code.specs.Laws.{AreScalars, Valued}
+use Rattle.expression_code.specs.Straight.{is_straight, height_of}
+use Rattle.expression_code.proofs.Expressions.{expression_does}
+use Rattle.expression_code.proofs.Leaves.{both_true, some_height}
+use Rattle.expression_code.proofs.Placing.{top_fits, convert_done}
+use Rattle.simple_code.specs.Code.{value_register, out_line, simple_code, is_simple, weight_of_simple}
+use Rattle.simple_code.specs.Laws.{height_of_simple}
+use Rattle.simple_code.proofs.States.{agrees_counted, agrees_flagged, agrees_put, agrees_written}
+
+unequal : (a b : ℕ) → (a == b) ≡ false → a ≢ b
+unequal a b apart e = grind (arith, nat_tests)
+
+none_added : (x : ℤ) → FitsSigned w32 x → int_wrapping_add w32 x (pos 0) ≡ x
+none_added x fits = grind (arith, ints)
+
+-- these registers are none of the source
+data IsTaken : ℕ → Type 0 where
+  sample : IsTaken 10
+  call : IsTaken 17
+  flag : IsTaken 27
+
+taken_spare : (n : ℕ) → IsTaken n → IsSpare 0 n
+taken_spare n sample = record { based = unequal 10 3 refl; low = unequal 10 24 refl; high = unequal 10 25 refl; stack = λ place less low. absurd (omega arith) }
+taken_spare n call = record { based = unequal 17 3 refl; low = unequal 17 24 refl; high = unequal 17 25 refl; stack = λ place less low. absurd (omega arith) }
+taken_spare n flag = record { based = unequal 27 3 refl; low = unequal 27 24 refl; high = unequal 27 25 refl; stack = λ place less low. absurd (omega arith) }
+
+untaken : (n other : ℕ) → IsTaken other → (IsTaken n → ⊥) → (n == other) ≡ false
+untaken n other is never = elim (cases_Bool (n == other)) [ inl same ↦ absurd (never (subst IsTaken (sym (eqb-true n other same)) is)) | inr differ ↦ differ ]
+
+module _ (code : List ℕ) (turns : ℕ) (l : Layout) (laid : IsLaidOut l) (here : Setting) (called : Called) (scalars : AreScalars here.objects l) where
+  abbrev At : (k lag : ℕ) → Bond
+  At k lag = With here.objects l k lag []
+
+  abbrev value_code : IrTree → List Instr
+  value_code value = expression_code here.objects l value 0
+
+  -- nothing is on the stack
+  bare : (k lag : ℕ) (s : SourceState) (m : MachineState) → IsBefore k m → Agrees here.objects l lag s.kept m → At k lag s m
+  bare k lag s m before agrees = record { before = before; agrees = agrees; stack = λ place less. absurd (omega arith) }
+
+  -- the value is in x8
+  top_is : (k lag : ℕ) (x : ℤ) (s : SourceState) (m : MachineState) → IsWith here.objects l k lag (x ∷ []) s m → register m 8 ≡ x
+  top_is k lag x s m at = (at.stack 0 (omega arith)).0
+
+  -- ---- the count
+
+  count_does : (weight k lag : ℕ) → Does code turns (At k lag) (node_meaning here called (AddCount weight)).change (λ done. At (k + 0) (lag + weight))
+  unfolding ◌>>◌ ◌>>=◌ changing
+  count_does weight k lag s m at =
+      let none : k ≡ k + 0 = omega arith in (
+        m,
+        leads_still code (Running m),
+        subst (λ n. IsWith here.objects l n (lag + weight) [] (record s { kept = counted weight s.kept }) m) none
+            (bare k (lag + weight) (record s { kept = counted weight s.kept }) m at.before (agrees_counted here.objects l lag weight s.kept m at.agrees)),
+      )
+
+  -- a value, and what is done with it
+  module _ (value : IrTree) (straight : is_straight l value ≡ true) (room : height_of value ≤ l.depth) where
+    valued_does : {A : Type 0} (k lag : ℕ) (rest : List Instr) (next : ℤ → Run A) (after : A → Bond) → StandHere code k (value_code value ++ rest)
+        → ((x : ℤ) (s : SourceState) (m : MachineState) → StandHere code (k + length (value_code value)) rest
+        → Valued here.objects l (k + length (value_code value)) (lag + weight_of value) [] value x s m → Comes code turns (Running m) (λ a. 0) after (next x s))
+        → Does code turns (At k lag) (value_meaning here called value >>= next) after
+    valued_does k lag rest next after stands finishes =
+        let xs = value_code value in
+        in_turn code turns (At k lag) (value_meaning here called value) (Valued here.objects l (k + length xs) (lag + weight_of value) [] value) next after
+        (expression_does code turns l laid here called scalars value k lag [] straight (omega arith) (first_stands code k xs rest stands))
+        (λ x s m valued. finishes x s m (second_stands code k xs rest stands) valued)
+
+    -- ---- Overflow
+
+    flag_does : (k lag : ℕ) → StandHere code k (value_code value ++ Addi 27 value_register (pos 0) ∷ [])
+        → Does code turns (At k lag) (node_meaning here called (WriteFlag value)).change (λ done. At (k + length (value_code value ++ Addi 27 value_register (pos 0) ∷ [])) (lag + weight_of value))
+    unfolding changing
+    flag_does k lag stands =
+        let xs = value_code value in
+        let line = Addi 27 value_register (pos 0) ∷ [] in
+        let whole : k + length xs + 1 ≡ k + length (xs ++ line) = omega (arith, length-append xs line) in
+        valued_does k lag line (λ x. changing (with_overflow x)) _ stands
+        (λ x s m standing valued.
+        let fits = top_fits code here.objects l laid (k + length xs) (lag + weight_of value) [] x s m valued.0 in
+        let run = lines_run code (k + length xs) line m standing valued.0.before refl in
+        let u = run.0 in
+        let left = run.2 in
+        let same : (n : ℕ) → (IsTaken n → ⊥) → register u n ≡ register m n = λ n never. left.file n ∙ rw (untaken n 27 flag never) refl in
+        let keeps = keeps_registers l 0 m u IsTaken taken_spare same left.memory left.input left.output in
+        let is : register u 27 ≡ x = left.file 27 ∙ ap (λ y. int_wrapping_add w32 y (pos 0)) (top_is (k + length xs) (lag + weight_of value) x s m valued.0) ∙ none_added x fits in
+        let after : SourceState = record s { kept = with_overflow x s.kept } in (
+          u,
+          leads_later code (Running m) (Running u) run.1,
+          subst (λ n. IsWith here.objects l n (lag + weight_of value) [] after u) whole
+              (bare (k + length xs + 1) (lag + weight_of value) after u left.before (agrees_flagged here.objects l (lag + weight_of value) x s.kept m u keeps is fits valued.0.agrees)),
+        ))
+
+    -- ---- samples that are written
+
+    out_does : (k lag : ℕ) → StandHere code k (value_code value ++ (out_line ++ Ecall ∷ []))
+        → Does code turns (At k lag) (node_meaning here called (Out value)).change (λ done. At (k + length (value_code value ++ (out_line ++ Ecall ∷ []))) (lag + weight_of value))
+    unfolding sample_out changing ◌>>◌ ◌>>=◌
+    out_does k lag stands =
+        let xs = value_code value in
+        let place = k + length (xs ++ (out_line ++ Ecall ∷ [])) in
+        let whole : k + length xs + 2 + 1 ≡ place = omega (arith, length-append xs (out_line ++ Ecall ∷ [])) in
+        in_turn code turns (At k lag) (value_meaning here called value >>= (λ x. sample_out x >> gives (pos 0))) (λ z. At place (lag + weight_of value)) (λ z. gives tt) (λ done. At place (lag + weight_of value))
+        (valued_does k lag (out_line ++ Ecall ∷ []) (λ x. sample_out x >> gives (pos 0)) (λ z. At place (lag + weight_of value)) stands
+        (λ x s m standing valued.
+        let start = k + length xs in
+        let fits = top_fits code here.objects l laid start (lag + weight_of value) [] x s m valued.0 in
+        let run = lines_run code start out_line m (first_stands code start out_line (Ecall ∷ []) standing) valued.0.before refl in
+        let u = run.0 in
+        let left = run.2 in
+        let same : (n : ℕ) → (IsTaken n → ⊥) → register u n ≡ register m n = λ n never. left.file n ∙ rw (untaken n 17 call never, untaken n 10 sample never) refl in
+        let keeps = keeps_registers l 0 m u IsTaken taken_spare same left.memory left.input left.output in
+        let agrees = agrees_kept here.objects l (lag + weight_of value) 0 s.kept m u keeps (left.file 27) valued.0.agrees in
+        let given : register u 10 ≡ x = left.file 10 ∙ ap (λ y. int_wrapping_add w32 y (pos 0)) (top_is start (lag + weight_of value) x s m valued.0) ∙ none_added x fits in
+        let asked : register u 17 ≡ pos 3 = left.file 17 ∙ ap (λ y. int_wrapping_add w32 y (pos 3)) valued.0.before.zero_is in
+        let call_stands = second_stands code start out_line (Ecall ∷ []) standing in
+        let v : MachineState = record u { pc = next_pc u.pc; output = u.output ++ low16 (register u 10) ∷ [] } in
+        let effect : effect_of Ecall u ≡ Running v = ap (calls u) asked in
+        let written = leads_in code 1 (Running u) (Running v) (next_is code (start + 2) Ecall u call_stands left.before ∙ effect) in
+        let after : SourceState = record s { kept = put x s.kept } in (
+          v,
+          leads_later code (Running m) (Running v) (leads_then code (Running m) (Running u) (Running v) run.1 written),
+          subst (λ n. IsWith here.objects l n (lag + weight_of value) [] after v) whole
+              (bare (start + 2 + 1) (lag + weight_of value) after v
+              (record { pc = next_place code (start + 2) Ecall u call_stands left.before; count = left.before.count; zero_is = left.before.zero_is })
+              (agrees_put here.objects l (lag + weight_of value) x s.kept u v agrees (λ n. refl) refl refl (ap (λ y. u.output ++ low16 y ∷ []) given))),
+        )))
+        (λ z s m at. (m, leads_still code (Running m), at))
+
+    -- ---- variables
+
+    object_is : (n : ℕ) (found : Option Object) → slice_get here.objects n ≡ found → (shape_of here.objects n).object ≡ n
+    object_is n None is = rw is refl
+    object_is n (Some object) is = rw is refl
+
+    -- what an assignment to a scalar does
+    write_is : (n : ℕ) (width : Width) (site : Option ℕ) (s : SourceState) → (shape_of here.objects n).view ≡ false
+        → (node_meaning here called (Write (Variable n) assign.Plain width site value)).change s
+        ≡ (value_meaning here called value >>= (λ x. changing (written (shape_of here.objects (shape_of here.objects n).object).width (location (shape_of here.objects n).object 0) x))) s
+    unfolding assignment_meaning assigned reading ◌>>=◌
+    write_is n width site s scalar = rw scalar refl
+
+    write_does : (n : ℕ) (width : Width) (site : Option ℕ) (k lag : ℕ) → l.is_variable n ≡ true → StandHere code k (simple_code here.objects l (Write (Variable n) assign.Plain width site value))
+        → Does code turns (At k lag) (node_meaning here called (Write (Variable n) assign.Plain width site value)).change
+        (λ done. At (k + length (simple_code here.objects l (Write (Variable n) assign.Plain width site value))) (lag + weight_of value))
+    unfolding changing
+    write_does n width site k lag is stands s m at =
+        let xs = value_code value in
+        let wide = (shape_of here.objects n).width in
+        let cs = convert_code here.objects l wide (fits_sixteen here.objects value) 0 in
+        let storing = store_code value_register (l.slot n) in
+        let place = k + length (xs ++ (cs ++ storing)) in
+        let whole : k + length xs + length cs + length storing ≡ place = omega (arith, length-append xs (cs ++ storing), length-append cs storing) in
+        let own : (shape_of here.objects n).object ≡ n = object_is n (slice_get here.objects n) refl in
+        let same : (value_meaning here called value >>= (λ x. changing (written (shape_of here.objects (shape_of here.objects n).object).width (location (shape_of here.objects n).object 0) x)))
+        ≡ (value_meaning here called value >>= (λ x. changing (written wide (location n 0) x))) =
+        ap (λ o. value_meaning here called value >>= (λ x. changing (written (shape_of here.objects o).width (location o 0) x))) own in
+        subst (Comes code turns (Running m) (λ done. 0) (λ done. At place (lag + weight_of value)))
+        (sym (write_is n width site s (scalars n is) ∙ ap (λ run. run s) same))
+        (valued_does k lag (cs ++ storing) (λ x. changing (written wide (location n 0) x)) (λ done. At place (lag + weight_of value)) stands
+        (λ x t v standing valued.
+        let late = lag + weight_of value in
+        let converting = convert_done code here.objects l laid (k + length xs) late [] x wide (fits_sixteen here.objects value) t v valued.1 (omega (arith, some_height value)) (first_stands code (k + length xs) cs storing standing) valued.0 in
+        let u = converting.0.0 in
+        let there = converting.0.2 in
+        let c = converted wide x in
+        let stored = stores_are_done code (k + length xs + length cs) value_register (l.slot n) u (second_stands code (k + length xs) cs storing standing) there.before there.agrees.based
+        (variable_at l u.memory n laid there.agrees.size is) (unequal 8 5 refl) in
+        let w = stored.0 in
+        let kept_there = subst (λ y. IsStored (k + length xs + length cs + length storing) (l.slot n) y u w) (top_is (k + length xs + length cs) late c t u there) stored.2 in
+        let after : SourceState = record t { kept = written wide (location n 0) x t.kept } in (
+          w,
+          leads_later code (Running v) (Running w) (leads_then code (Running v) (Running u) (Running w) converting.0.1 stored.1),
+          subst (λ p. IsWith here.objects l p late [] after w) whole
+              (bare (k + length xs + length cs + length storing) late after w stored.2.before
+              (agrees_written here.objects l laid late (k + length xs + length cs + length storing) n wide x t.kept u w is refl there.agrees kept_there converting.1)),
+        ))
+        s m at)
+
+  -- ---- the whole
+
+  abbrev DoesSimple : IrTree → Type 0
+  DoesSimple part = (k lag : ℕ) → is_simple l part ≡ true → height_of_simple part ≤ l.depth → StandHere code k (simple_code here.objects l part)
+      → Does code turns (At k lag) (node_meaning here called part).change (λ done. At (k + length (simple_code here.objects l part)) (lag + weight_of_simple part))
+
+  never : (part : IrTree) → is_simple l part ≡ false → DoesSimple part
+  never part other k lag simple room stands = absurd (let f = simple in let g = other in cc)
+
+  pub simple_does : (part : IrTree) → DoesSimple part
+  simple_does (Write (Variable n) assign.Plain width site value) = λ k lag simple room stands.
+      let parts = both_true (l.is_variable n) (is_straight l value) simple in write_does value parts.1 room n width site k lag parts.0 stands
+  simple_does (WriteFlag value) = λ k lag simple room stands. flag_does value simple room k lag stands
+  simple_does (Out value) = λ k lag simple room stands. out_does value simple room k lag stands
+  simple_does (AddCount weight) = λ k lag simple room stands. count_does weight k lag
+  simple_does part = never part refl

@@ -1,0 +1,9 @@
+// What the code of assignments and their like does.
+
+ghost use Rattle.simple_code.specs.Laws.{SimplesAreDone};
+
+/// The code of an assignment to a scalar or to Overflow, of a sample that is written and of a counting call does what these
+/// do, and leaves nothing on the stack.
+pub fn simples_are_done()
+    ensures { SimplesAreDone }
+{}
