@@ -1,0 +1,142 @@
+-- Operands are compared, with the count brought up before.
+use Rattle.std.proofs.Common.{◌≡◌, ℕ, ◌+◌, ◌*◌, ◌%◌, ◌^◌, ◌<◌, ◌≤◌, ℤ, pos, ◌+ℤ◌, Bool, true, false, ◌==◌, nat_lt, if◌then◌else◌, List, ◌++◌, length, length-append, refl, sym, ap, ◌∙◌, subst, arith}
+use Rattle.std.specs.Prelude.{FitsSigned}
+use Rattle.std.specs.Int.{w32, cast_unsigned}
+use Rattle.std.proofs.lemmas.Bool.Decides.{nat_tests}
+use Rattle.std.proofs.lemmas.Int.{ints}
+use Rattle.operator_meaning.specs.declared.object.Object.{Object}
+use Rattle.source_runs.specs.State.{SourceState}
+use Rattle.rv_encode.specs.State.{MachineState, Running, register}
+use Rattle.rv_encode.proofs.Leads.{leads_then}
+use Rattle.template_runs.specs.Machine.{StandHere, IsBefore}
+use Rattle.code_jumps.specs.Jumps.{Test, passes, Reach, branch_code, ComesBy, IsThere}
+use Rattle.code_jumps.proofs.Branches.{branches_are_done}
+use Rattle.code_lines.specs.Pieces.{count_in, HasHalves, IsNoCount}
+use Rattle.code_memory.specs.Memory.{word_in}
+use Rattle.code_runs.specs.Doing.{LeadsLater, side}
+use Rattle.code_runs.proofs.Steps.{leads_later, leads_both}
+use Rattle.code_stacks.specs.Places.{Layout, IsLaidOut, stack_register, kept_slot}
+use Rattle.code_stacks.specs.Agreement.{IsWith, With}
+use Rattle.code_stacks.specs.Operands.{fetches}
+use Rattle.code_stacks.proofs.Keeping.{keeps_same, lowered, held_kept}
+use Rattle.code_stacks.proofs.Operands.{first_stands, second_stands, all_ready}
+use Rattle.code_stacks.proofs.Registers.{stack_work, stack_low}
+use Rattle.expression_code.proofs.Computing.{reached, AreIn, are_in}
+use Rattle.condition_code.specs.Code.{flush_code, sensed, jump_where}
+use Rattle.condition_code.specs.Laws.{met}
+use Rattle.condition_code.proofs.Flushing.{unequal, sensed_passes, same_length, flushed}
+
+-- values of the stack, where the registers of values and the memory are the same
+value_low : (l : Layout) (b : Bool) (place : ℕ) (m v : MachineState) → nat_lt place 5 ≡ b → ((n : ℕ) → 8 ≤ n → n ≤ 13 → register v n ≡ register m n) → v.memory ≡ m.memory
+    → (if b then register v (stack_register place) else word_in v.memory (kept_slot l place)) ≡ (if b then register m (stack_register place) else word_in m.memory (kept_slot l place))
+value_low l true place m v low same memory =
+    let work = stack_work place in
+    let least = work.least in
+    let below = stack_low place (grind (arith, nat_tests)) in
+    same (stack_register place) least (omega arith)
+value_low l false place m v high same memory = ap (λ bytes. word_in bytes (kept_slot l place)) memory
+
+brought_up : (kept before lag after : ℕ) → kept ≡ (before + lag) % 2 ^ 64 → after ≡ (before + lag) % 2 ^ 64 → kept ≡ (after + 0) % 2 ^ 64
+brought_up kept before lag after is is2 = omega (arith, is, is2)
+
+-- what has changed are registers for operands, for jumps and of the count
+record IsAfter (k : ℕ) (lag : ℕ) (m v : MachineState) : Type 0 where
+  before : IsBefore k v
+  count : count_in (register v) ≡ (count_in (register m) + lag) % 2 ^ 64
+  low_fits : FitsSigned w32 (register v 24)
+  high_fits : FitsSigned w32 (register v 25)
+  based : register v 3 ≡ register m 3
+  flag : register v 27 ≡ register m 27
+  values : (n : ℕ) → 8 ≤ n → n ≤ 13 → register v n ≡ register m n
+  memory : v.memory ≡ m.memory
+  input : v.input ≡ m.input
+  output : v.output ≡ m.output
+
+with_after : (objects : List Object) (l : Layout) (k at lag : ℕ) (values args : List ℤ) (s : SourceState) (m v : MachineState) → IsWith objects l at lag (values ++ args) s m → IsAfter k lag m v → IsWith objects l k 0 values s v
+with_after objects l k at lag values args s m v is after =
+    let agrees = is.agrees in
+    record {
+      before = after.before;
+      agrees = record {
+        based = after.based ∙ agrees.based;
+        flag = after.flag ∙ agrees.flag;
+        flag_fits = agrees.flag_fits;
+        count = brought_up s.kept.count (count_in (register m)) lag (count_in (register v)) agrees.count after.count;
+        halves = (after.low_fits, after.high_fits);
+        input = after.input ∙ agrees.input;
+        samples = agrees.samples;
+        output = after.output ∙ agrees.output;
+        size = ap length after.memory ∙ agrees.size;
+        variables = λ n variable. held_kept objects l s.kept m.memory v.memory n (ap (λ bytes. word_in bytes (l.slot n)) after.memory) (agrees.variables n variable);
+      };
+      stack = λ place less.
+          let below = lowered l values args m m (keeps_same l (length values) m) is.stack place less in
+          (value_low l (nat_lt place 5) place m v refl after.values after.memory ∙ below.0, below.1);
+    }
+
+module _ (code : List ℕ) (objects : List Object) (l : Layout) (laid : IsLaidOut l) where
+  -- where a comparison of the topmost values leads
+  pub decided : (reach : Reach) (sense : Bool) (test : Test) (rs1 rs2 : ℕ) (k lag : ℕ) (values args : List ℤ) (a b distance : ℤ) (target : ℕ) (s : SourceState) (m : MachineState)
+      → length args ≤ 3 → length values + length args ≤ l.depth → lag < 2 ^ 31 → IsNoCount rs1 → IsNoCount rs2
+      → ((t : MachineState) → AreIn code objects l laid (length values) args (register t) → register t 0 ≡ pos 0 → (register t rs1 ≡ a) × (register t rs2 ≡ b))
+      → StandHere code k (fetches l (length values) (length args) ++ (flush_code lag ++ jump_where reach sense test rs1 rs2 distance))
+      → pos target ≡ pos (k + length (fetches l (length values) (length args) ++ (flush_code lag ++ jump_where reach sense test rs1 rs2 distance))) +ℤ distance → target ≤ 16777216
+      → IsWith objects l k lag (values ++ args) s m
+      → (v : MachineState) × LeadsLater code (if met sense (passes test a b) then 1 else 0) (Running m) (Running v)
+      × side (With objects l target 0 values) (With objects l (k + length (fetches l (length values) (length args) ++ (flush_code lag ++ jump_where reach sense test rs1 rs2 distance))) 0 values) (met sense (passes test a b)) s v
+  decided reach sense test rs1 rs2 k lag values args a b distance target s m few room small apart apart2 regs stands target_is near is =
+      let depth = length values in
+      let fetching = fetches l depth (length args) in
+      let flushing = flush_code lag in
+      let jump = jump_where reach sense test rs1 rs2 distance in
+      let end = k + length (fetching ++ (flushing ++ jump)) in
+      let whole : k + length fetching + length flushing + length jump ≡ end = omega (arith, length-append fetching (flushing ++ jump), length-append flushing jump) in
+      let later = second_stands code k fetching (flushing ++ jump) stands in
+      let ready = all_ready code l laid k depth (length args) m few (first_stands code k fetching (flushing ++ jump) stands) is.before (reached code objects l laid lag s.kept m is.agrees) room in
+      let t = ready.0 in
+      let at = ready.2 in
+      let kept : (n : ℕ) → (n == 5) ≡ false → (n == 14) ≡ false → (n == 15) ≡ false → (n == 16) ≡ false → register t n ≡ register m n =
+      λ n five fourteen fifteen sixteen. at.others n (unequal n 5 five) (unequal n 14 fourteen) (unequal n 15 fifteen) (unequal n 16 sixteen) in
+      let low : register t 24 ≡ register m 24 = kept 24 refl refl refl refl in
+      let high : register t 25 ≡ register m 25 = kept 25 refl refl refl refl in
+      let halves : HasHalves (register t) = (subst (FitsSigned w32) (sym low) is.agrees.halves.0, subst (FitsSigned w32) (sym high) is.agrees.halves.1) in
+      let flush = flushed code (k + length fetching) lag t small (first_stands code (k + length fetching) flushing jump later) at.before halves in
+      let u = flush.0 in
+      let up = flush.2 in
+      let both = regs t (are_in code objects l laid k lag values args s m is (k + length fetching) t at) at.before.zero_is in
+      let first : register u rs1 ≡ a = up.others rs1 apart ∙ both.0 in
+      let second : register u rs2 ≡ b = up.others rs2 apart2 ∙ both.1 in
+      let own = pos (length (branch_code reach (sensed sense test) rs1 rs2 distance)) +ℤ distance in
+      let long : length jump ≡ length (branch_code reach (sensed sense test) rs1 rs2 distance) = same_length reach (sensed sense test) rs1 rs2 own distance in
+      let branch = branches_are_done code (k + length fetching + length flushing) target reach (sensed sense test) rs1 rs2 own u (second_stands code (k + length fetching) flushing jump later) up.before
+      (omega (arith, ints, target_is, whole, long)) near in
+      let tested : passes (sensed sense test) (register u rs1) (register u rs2) ≡ met sense (passes test a b) =
+      ap (λ x. passes (sensed sense test) x (register u rs2)) first ∙ ap (λ y. passes (sensed sense test) a y) second ∙ sensed_passes sense test a b in
+      let up_leads = leads_later code (Running m) (Running u) (leads_then code (Running m) (Running t) (Running u) ready.1 flush.1) in
+      by (met sense (passes test a b)) (k + length fetching + length flushing + length jump) end u whole up_leads
+      (λ place v way. record {
+        before = way.before;
+        count = ap (λ x. cast_unsigned w32 (register v 25) * 2 ^ 32 + cast_unsigned w32 x) (way.others 24 (unequal 24 5 refl)) ∙ ap (λ x. cast_unsigned w32 x * 2 ^ 32 + cast_unsigned w32 (register u 24)) (way.others 25 (unequal 25 5 refl))
+            ∙ up.count ∙ ap (λ x. (cast_unsigned w32 (register t 25) * 2 ^ 32 + cast_unsigned w32 x + lag) % 2 ^ 64) low ∙ ap (λ x. (cast_unsigned w32 x * 2 ^ 32 + cast_unsigned w32 (register m 24) + lag) % 2 ^ 64) high;
+        low_fits = subst (FitsSigned w32) (sym (way.others 24 (unequal 24 5 refl))) up.halves.0;
+        high_fits = subst (FitsSigned w32) (sym (way.others 25 (unequal 25 5 refl))) up.halves.1;
+        based = way.others 3 (unequal 3 5 refl) ∙ up.others 3 (unequal 3 5 refl, unequal 3 6 refl, unequal 3 24 refl, unequal 3 25 refl) ∙ kept 3 refl refl refl refl;
+        flag = way.others 27 (unequal 27 5 refl) ∙ up.others 27 (unequal 27 5 refl, unequal 27 6 refl, unequal 27 24 refl, unequal 27 25 refl) ∙ kept 27 refl refl refl refl;
+        values = λ n least most.
+            way.others n (λ e. omega (arith, e)) ∙ up.others n ((λ e. omega (arith, e)), (λ e. omega (arith, e)), (λ e. omega (arith, e)), (λ e. omega (arith, e)))
+            ∙ at.others n (λ e. omega (arith, e)) (λ e. omega (arith, e)) (λ e. omega (arith, e)) (λ e. omega (arith, e));
+        memory = way.memory ∙ up.memory ∙ at.memory;
+        input = way.input ∙ up.input ∙ at.input;
+        output = way.output ∙ up.output ∙ at.output;
+      }) (subst (λ passed. ComesBy passed code target (k + length fetching + length flushing + length jump) u) tested branch)
+    where
+      by : (passed : Bool) (next end : ℕ) (u : MachineState) → next ≡ end → LeadsLater code 0 (Running m) (Running u) → ((place : ℕ) (v : MachineState) → IsThere place u v → IsAfter place lag m v)
+          → ComesBy passed code target next u
+          → (v : MachineState) × LeadsLater code (if passed then 1 else 0) (Running m) (Running v) × side (With objects l target 0 values) (With objects l end 0 values) passed s v
+      by true next end u same up after comes =
+          (comes.0, leads_both code 0 1 (Running m) (Running u) (Running comes.0) up comes.1, with_after objects l target k lag values args s m comes.0 is (after target comes.0 comes.2))
+      by false next end u same up after comes = (
+        comes.0,
+        leads_both code 0 0 (Running m) (Running u) (Running comes.0) up comes.1,
+        subst (λ n. IsWith objects l n 0 values s comes.0) same (with_after objects l next k lag values args s m comes.0 is (after next comes.0 comes.2)),
+      )

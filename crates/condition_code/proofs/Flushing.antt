@@ -1,0 +1,94 @@
+-- The count is brought up, and two registers are compared.
+use Rattle.std.proofs.Common.{◌≡◌, ◌≢◌, ℕ, zero, suc, ◌+◌, ◌*◌, ◌%◌, ◌^◌, ◌<◌, ℤ, pos, Bool, true, false, not, ◌==◌, nat_lt, List, [], ◌∷◌, ◌++◌, length, refl, sym, ap, ◌∙◌, subst, arith}
+use Rattle.std.specs.Prelude.{FitsSigned, int_lt}
+use Rattle.std.specs.Int.{w32, cast_unsigned}
+use Rattle.std.specs.Ordering.{int_eq}
+use Rattle.std.proofs.lemmas.Bool.Decides.{nat_tests}
+use Rattle.std.proofs.lemmas.Int.{ints}
+use Rattle.rv_encode.specs.declared.instruction.Instr.TheVariants.{Add, Sltu}
+use Rattle.rv_encode.specs.State.{MachineState, Running, register}
+use Rattle.rv_encode.specs.Runs.{Leads}
+use Rattle.rv_encode.proofs.Leads.{leads_nowhere}
+use Rattle.template_runs.specs.Machine.{StandHere, IsBefore}
+use Rattle.code_jumps.specs.Jumps.{Test, Equal, Unequal, Less, NotLess, passes, opposite, Reach, Short, Middle, Long, branch_code}
+use Rattle.code_lines.specs.Lines.{file_after, is_line}
+use Rattle.code_lines.specs.Pieces.{count_code, count_line, number_line, is_near, count_in, HasHalves, IsNoCount}
+use Rattle.code_lines.proofs.Lines.{lines_run}
+use Rattle.code_lines.proofs.Pieces.{counts_are_added}
+use Rattle.condition_code.specs.Code.{flush_code, sensed}
+use Rattle.condition_code.specs.Laws.{met}
+
+pub unequal : (a b : ℕ) → (a == b) ≡ false → a ≢ b
+unequal a b apart e = grind (arith, nat_tests)
+
+-- ---- tests
+
+opposed : (test : Test) (a b : ℤ) → passes (opposite test) a b ≡ not (passes test a b)
+opposed Equal a b = refl
+opposed Unequal a b = twice (int_eq a b)
+  where
+    twice : (x : Bool) → x ≡ not (not x)
+    twice true = refl
+    twice false = refl
+opposed Less a b = refl
+opposed NotLess a b = twice (int_lt a b)
+  where
+    twice : (x : Bool) → x ≡ not (not x)
+    twice true = refl
+    twice false = refl
+
+pub sensed_passes : (sense : Bool) (test : Test) (a b : ℤ) → passes (sensed sense test) a b ≡ met sense (passes test a b)
+sensed_passes true test a b = refl
+sensed_passes false test a b = opposed test a b
+
+-- a branch has the same length at any distance
+pub same_length : (reach : Reach) (test : Test) (rs1 rs2 : ℕ) (one other : ℤ) → length (branch_code reach test rs1 rs2 one) ≡ length (branch_code reach test rs1 rs2 other)
+same_length Short test rs1 rs2 one other = refl
+same_length Middle test rs1 rs2 one other = refl
+same_length Long test rs1 rs2 one other = refl
+
+-- ---- the count
+
+count_lines : (near : Bool) (weight : ℕ) → is_line (count_line near weight) ≡ true
+count_lines true weight = refl
+count_lines false weight = number_first (is_near (pos weight))
+  where
+    number_first : (near : Bool) → is_line (number_line near 6 (pos weight) ++ (Add 24 24 6 ∷ Sltu 5 24 6 ∷ Add 25 25 5 ∷ [])) ≡ true
+    number_first true = refl
+    number_first false = refl
+
+-- the machine after the count is brought up
+pub record IsFlushed (k weight : ℕ) (t u : MachineState) : Type 0 where
+  pub before : IsBefore k u
+  pub count : count_in (register u) ≡ (count_in (register t) + weight) % 2 ^ 64
+  pub halves : HasHalves (register u)
+  pub others : (n : ℕ) → IsNoCount n → register u n ≡ register t n
+  pub memory : u.memory ≡ t.memory
+  pub input : u.input ≡ t.input
+  pub output : u.output ≡ t.output
+
+no_weight : (high low : ℤ) → FitsSigned w32 high → FitsSigned w32 low → cast_unsigned w32 high * 2 ^ 32 + cast_unsigned w32 low ≡ (cast_unsigned w32 high * 2 ^ 32 + cast_unsigned w32 low + 0) % 2 ^ 64
+no_weight high low fits fits2 = grind (arith, ints)
+
+pub flushed : (code : List ℕ) (k weight : ℕ) (t : MachineState) → weight < 2 ^ 31 → StandHere code k (flush_code weight) → IsBefore k t → HasHalves (register t)
+    → (u : MachineState) × Leads code (Running t) (Running u) × IsFlushed (k + length (flush_code weight)) weight t u
+flushed code k zero t small stands before halves =
+    let none : k ≡ k + 0 = omega arith in
+    (t, leads_nowhere code (Running t), record { before = subst (λ n. IsBefore n t) none before; count = no_weight (register t 25) (register t 24) halves.1 halves.0; halves = halves; others = λ n apart. refl; memory = refl; input = refl; output = refl })
+flushed code k (suc weight) t small stands before halves =
+    let run = lines_run code k (count_code (suc weight)) t stands before (count_lines (nat_lt (suc weight) 2048) (suc weight)) in
+    let u = run.0 in
+    let left = run.2 in
+    let counted = counts_are_added (suc weight) (register t) small before.zero_is halves in (
+      u,
+      run.1,
+      record {
+        before = left.before;
+        count = ap (λ x. cast_unsigned w32 (register u 25) * 2 ^ 32 + cast_unsigned w32 x) (left.file 24) ∙ ap (λ x. cast_unsigned w32 x * 2 ^ 32 + cast_unsigned w32 (file_after (count_code (suc weight)) (register t) 24)) (left.file 25) ∙ counted.count;
+        halves = (subst (FitsSigned w32) (sym (left.file 24)) counted.halves.0, subst (FitsSigned w32) (sym (left.file 25)) counted.halves.1);
+        others = λ n apart. left.file n ∙ counted.others n apart;
+        memory = left.memory;
+        input = left.input;
+        output = left.output;
+      },
+    )
