@@ -72,9 +72,10 @@ module _ (code : List ℕ) (turns : ℕ) where
 
 -- ---- turns
 
-module _ (code : List ℕ) (turns : ℕ) (begin next test left : Bond) (returned : ℤ → Bond) (condition : Run ℤ) (last : Run (Unit {0})) (body : Run Flow) where
+module _ (code : List ℕ) (turns : ℕ) (begin next test left : Bond) (returned : ℤ → Bond) (condition : Run ℤ) (last : Run (Unit {0})) (body : Run Flow) (broken again : Bond) where
+  -- the turns of a loop are never left by `break` or `continue`, so anything may hold there
   abbrev out : Flow → Bond
-  out = exits left left left returned
+  out = exits left again broken returned
 
   turned : (k : ℕ) (b : Bool) (from : Moment) (s : SourceState) (m : MachineState) → LeadsLater code (if b then 1 else 0) from (Running m) → side begin left b s m
       → Does code k begin (turns_of k condition last body) out → Comes code (suc k) from (λ f. 0) out (chosen b (turns_of k condition last body) (gives Normal) s)

@@ -40,19 +40,19 @@ brought_up : (kept before lag after : ℕ) → kept ≡ (before + lag) % 2 ^ 64 
 brought_up kept before lag after is is2 = omega (arith, is, is2)
 
 -- what has changed are registers for operands, for jumps and of the count
-record IsAfter (k : ℕ) (lag : ℕ) (m v : MachineState) : Type 0 where
-  before : IsBefore k v
-  count : count_in (register v) ≡ (count_in (register m) + lag) % 2 ^ 64
-  low_fits : FitsSigned w32 (register v 24)
-  high_fits : FitsSigned w32 (register v 25)
-  based : register v 3 ≡ register m 3
-  flag : register v 27 ≡ register m 27
-  values : (n : ℕ) → 8 ≤ n → n ≤ 13 → register v n ≡ register m n
-  memory : v.memory ≡ m.memory
-  input : v.input ≡ m.input
-  output : v.output ≡ m.output
+pub record IsAfter (k : ℕ) (lag : ℕ) (m v : MachineState) : Type 0 where
+  pub before : IsBefore k v
+  pub count : count_in (register v) ≡ (count_in (register m) + lag) % 2 ^ 64
+  pub low_fits : FitsSigned w32 (register v 24)
+  pub high_fits : FitsSigned w32 (register v 25)
+  pub based : register v 3 ≡ register m 3
+  pub flag : register v 27 ≡ register m 27
+  pub values : (n : ℕ) → 8 ≤ n → n ≤ 13 → register v n ≡ register m n
+  pub memory : v.memory ≡ m.memory
+  pub input : v.input ≡ m.input
+  pub output : v.output ≡ m.output
 
-with_after : (objects : List Object) (l : Layout) (k at lag : ℕ) (values args : List ℤ) (s : SourceState) (m v : MachineState) → IsWith objects l at lag (values ++ args) s m → IsAfter k lag m v → IsWith objects l k 0 values s v
+pub with_after : (objects : List Object) (l : Layout) (k at lag : ℕ) (values args : List ℤ) (s : SourceState) (m v : MachineState) → IsWith objects l at lag (values ++ args) s m → IsAfter k lag m v → IsWith objects l k 0 values s v
 with_after objects l k at lag values args s m v is after =
     let agrees = is.agrees in
     record {

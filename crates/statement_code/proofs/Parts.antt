@@ -1,0 +1,211 @@
+-- Parts one after the other, with the count brought up where paths meet.
+use Rattle.std.proofs.Common.{◌≡◌, ◌≢◌, ℕ, ◌+◌, ◌*◌, ◌^◌, ◌<◌, ◌≤◌, ℤ, pos, ◌+ℤ◌, Bool, true, false, ◌==◌, List, [], ◌∷◌, ◌++◌, length, length-append, refl, sym, ap, ◌∙◌, subst, arith}
+use Rattle.std.specs.Prelude.{FitsSigned}
+use Rattle.std.specs.Int.{w32, cast_unsigned}
+use Rattle.std.proofs.lemmas.Bool.Decides.{nat_tests}
+use Rattle.std.proofs.lemmas.Int.{ints}
+use Rattle.source_runs.specs.declared.halt.Flow.{Flow}
+use Rattle.source_runs.specs.declared.halt.Flow.TheVariants.{Normal, Break, Continue, Return}
+use Rattle.source_runs.specs.Loops.{in_sequence, after_statement}
+use Rattle.source_runs.specs.Runs.{Run}
+use Rattle.source_runs.specs.State.{SourceState}
+use Rattle.source_runs.proofs.Turning.{in_sequence-next}
+use Rattle.typed_meaning.specs.Expressions.{Setting}
+use Rattle.rv_encode.specs.State.{MachineState, Running, register}
+use Rattle.rv_encode.specs.Runs.{Leads}
+use Rattle.rv_encode.proofs.Leads.{leads_nowhere}
+use Rattle.template_runs.specs.Machine.{StandHere}
+use Rattle.code_jumps.specs.Jumps.{jump_code}
+use Rattle.code_jumps.proofs.Jumps.{jumps_are_done}
+use Rattle.code_runs.specs.Doing.{Bond, Does, LeadsLater, Moves}
+use Rattle.code_runs.proofs.Parts.{in_turn, nothing, moves_on}
+use Rattle.code_runs.proofs.Steps.{leads_both, leads_later}
+use Rattle.code_stacks.specs.Places.{Layout, IsLaidOut}
+use Rattle.code_stacks.specs.Agreement.{IsWith, With}
+use Rattle.code_stacks.proofs.Operands.{first_stands, second_stands}
+use Rattle.condition_code.specs.Code.{flush_code}
+use Rattle.condition_code.proofs.Flushing.{flushed}
+use Rattle.condition_code.proofs.Deciding.{IsAfter, with_after}
+use Rattle.statement_code.specs.Laws.{AreReached, Led, Targets, result_of}
+use Rattle.statement_code.specs.Code.{Exits, before, Part, codes_along, lags_along, whole_code, left_code}
+
+unequal : (a b : ℕ) → (a == b) ≡ false → a ≢ b
+unequal a b apart e = grind (arith, nat_tests)
+
+-- ---- where parts lead
+
+-- from a place so many words before
+pub reached_before : (place words later : ℕ) (ways : Exits) (targets : Targets) → place + words ≡ later → AreReached later ways targets → AreReached place (before words ways) targets
+reached_before place words later ways targets whole reached =
+    let a = reached.again in
+    let b = reached.left in
+    let c = reached.returned in
+    record {
+      again = omega (arith, ints, a, whole);
+      left = omega (arith, ints, b, whole);
+      returned = omega (arith, ints, c, whole);
+      again_near = reached.again_near;
+      left_near = reached.left_near;
+      returned_near = reached.returned_near;
+    }
+
+module _ (code : List ℕ) (turns : ℕ) (l : Layout) (laid : IsLaidOut l) (here : Setting) (near has_result : Bool) where
+  abbrev pub At : (k lag : ℕ) → Bond
+  At k lag = With here.objects l k lag []
+
+  abbrev pub Flows : Targets → (end late : ℕ) → Flow → Bond
+  Flows = Led here.objects l has_result
+
+  -- a part does what a run does; and it weighs so much at most
+  pub record IsDone (part : Part) (run : Run Flow) (weight : ℕ) : Type 0 where
+    pub does : (k lag : ℕ) (ways : Exits) (targets : Targets) → lag + weight < 2 ^ 31 → StandHere code k (part.code lag ways) → AreReached (k + length (part.code lag ways)) ways targets
+        → Does code turns (At k lag) run (Flows targets (k + length (part.code lag ways)) (part.after lag))
+    pub bounded : (lag : ℕ) → part.after lag ≤ lag + weight
+    pub steady : (lag : ℕ) (ways other : Exits) → length (part.code lag ways) ≡ length (part.code lag other)
+
+  -- a greater weight may be said
+  pub heavier : (part : Part) (run : Run Flow) (weight most : ℕ) → weight ≤ most → IsDone part run weight → IsDone part run most
+  heavier part run weight most least done = record {
+    does = λ k lag ways targets small. done.does k lag ways targets (omega (arith, small, least));
+    bounded = λ lag. omega (arith, done.bounded lag, least);
+    steady = done.steady;
+  }
+
+  -- ---- the count, and jumps
+
+  pub flush_after : (k lag : ℕ) (args : List ℤ) (s : SourceState) (m : MachineState) → lag < 2 ^ 31 → StandHere code k (flush_code lag) → IsWith here.objects l k lag args s m
+      → (u : MachineState) × Leads code (Running m) (Running u) × IsAfter (k + length (flush_code lag)) lag m u
+  flush_after k lag args s m small stands at =
+      let flush = flushed code k lag m small stands at.before at.agrees.halves in
+      let up = flush.2 in
+      (flush.0, flush.1, record {
+        before = up.before;
+        count = up.count;
+        low_fits = up.halves.0;
+        high_fits = up.halves.1;
+        based = up.others 3 (unequal 3 5 refl, unequal 3 6 refl, unequal 3 24 refl, unequal 3 25 refl);
+        flag = up.others 27 (unequal 27 5 refl, unequal 27 6 refl, unequal 27 24 refl, unequal 27 25 refl);
+        values = λ n least most. up.others n ((λ e. omega (arith, e)), (λ e. omega (arith, e)), (λ e. omega (arith, e)), (λ e. omega (arith, e)));
+        memory = up.memory;
+        input = up.input;
+        output = up.output;
+      })
+
+  pub flush_moves : (k lag : ℕ) → lag < 2 ^ 31 → StandHere code k (flush_code lag) → Moves code (At k lag) (At (k + length (flush_code lag)) 0)
+  flush_moves k lag small stands s m at =
+      let flush = flush_after k lag [] s m small stands at in
+      (flush.0, flush.1, with_after here.objects l (k + length (flush_code lag)) k lag [] [] s m flush.0 at flush.2)
+
+  -- a jump with the count brought up, which takes some of the stack
+  pub leaves : (k lag : ℕ) (values args : List ℤ) (distance : ℤ) (target : ℕ) (s : SourceState) (m : MachineState) → lag < 2 ^ 31 → StandHere code k (left_code here.objects l near lag distance)
+      → pos target ≡ pos (k + length (left_code here.objects l near lag distance)) +ℤ distance → target ≤ 16777216 → IsWith here.objects l k lag (values ++ args) s m
+      → (v : MachineState) × LeadsLater code 1 (Running m) (Running v) × With here.objects l target 0 values s v
+  leaves k lag values args distance target s m small stands target_is close at =
+      let flushing = flush_code lag in
+      let own = pos (length (jump_code near distance)) +ℤ distance in
+      let jump = jump_code near own in
+      let flush = flush_after k lag (values ++ args) s m small (first_stands code k flushing jump stands) at in
+      let u = flush.0 in
+      let long : length jump ≡ length (jump_code near distance) = same_jump near own distance in
+      let whole = length-append flushing jump in
+      let jumped = jumps_are_done code (k + length flushing) target near own u (second_stands code k flushing jump stands) flush.2.before (omega (arith, ints, target_is, whole, long)) close in
+      let v = jumped.0 in
+      let way = jumped.2 in
+      let up = flush.2 in
+      (v, leads_both code 0 1 (Running m) (Running u) (Running v) (leads_later code (Running m) (Running u) flush.1) jumped.1,
+      with_after here.objects l target k lag values args s m v at (record {
+        before = way.before;
+        count = ap (λ x. cast_unsigned w32 (register v 25) * 2 ^ 32 + cast_unsigned w32 x) (way.others 24 (unequal 24 5 refl)) ∙ ap (λ x. cast_unsigned w32 x * 2 ^ 32 + cast_unsigned w32 (register u 24)) (way.others 25 (unequal 25 5 refl)) ∙ up.count;
+        low_fits = subst (FitsSigned w32) (sym (way.others 24 (unequal 24 5 refl))) up.low_fits;
+        high_fits = subst (FitsSigned w32) (sym (way.others 25 (unequal 25 5 refl))) up.high_fits;
+        based = way.others 3 (unequal 3 5 refl) ∙ up.based;
+        flag = way.others 27 (unequal 27 5 refl) ∙ up.flag;
+        values = λ n least most. way.others n (λ e. omega (arith, e)) ∙ up.values n least most;
+        memory = way.memory ∙ up.memory;
+        input = way.input ∙ up.input;
+        output = way.output ∙ up.output;
+      }))
+    where
+      same_jump : (near : Bool) (one other : ℤ) → length (jump_code near one) ≡ length (jump_code near other)
+      same_jump true one other = refl
+      same_jump false one other = refl
+
+  -- ---- what is not changed
+
+  pub stay : (bond : Bond) → Moves code bond bond
+  stay bond s m has = (m, leads_nowhere code (Running m), has)
+
+  -- where a part ends elsewhere
+  pub flows_on : (targets : Targets) (from to lag late : ℕ) → Moves code (At from lag) (At to late) → (flow : Flow) → Moves code (Flows targets from lag flow) (Flows targets to late flow)
+  flows_on targets from to lag late moves Normal = moves
+  flows_on targets from to lag late moves Break = stay (At targets.left 0)
+  flows_on targets from to lag late moves Continue = stay (At targets.again 0)
+  flows_on targets from to lag late moves (Return value) = stay (With here.objects l targets.returned 0 (result_of has_result value))
+
+  pub whole_done : (part : Part) (run : Run Flow) (weight k : ℕ) (ways : Exits) (targets : Targets) → IsDone part run weight → weight < 2 ^ 31 → StandHere code k (whole_code part ways) → AreReached (k + length (whole_code part ways)) ways targets
+      → Does code turns (At k 0) run (Flows targets (k + length (whole_code part ways)) 0)
+  whole_done part run weight k ways targets done small stands reached =
+      let flushing = flush_code (part.after 0) in
+      let own = before (length flushing) ways in
+      let xs = part.code 0 own in
+      let bound = done.bounded 0 in
+      let whole : k + length xs + length flushing ≡ k + length (xs ++ flushing) = omega (arith, length-append xs flushing) in
+      subst (λ e. Does code turns (At k 0) run (Flows targets e 0)) whole
+      (moves_on code turns (At k 0) run (Flows targets (k + length xs) (part.after 0)) (Flows targets (k + length xs + length flushing) 0)
+      (done.does k 0 own targets (omega arith) (first_stands code k xs flushing stands) (reached_before (k + length xs) (length flushing) (k + length (xs ++ flushing)) ways targets whole reached))
+      (flows_on targets (k + length xs) (k + length xs + length flushing) (part.after 0) 0 (flush_moves (k + length xs) (part.after 0) (omega arith) (second_stands code k xs flushing stands))))
+
+  pub whole_steady : (part : Part) (run : Run Flow) (weight : ℕ) → IsDone part run weight → (ways other : Exits) → length (whole_code part ways) ≡ length (whole_code part other)
+  whole_steady part run weight done ways other =
+      let flushing = flush_code (part.after 0) in
+      let one = length-append (part.code 0 (before (length flushing) ways)) flushing in
+      let two = length-append (part.code 0 (before (length flushing) other)) flushing in
+      let same = done.steady 0 (before (length flushing) ways) (before (length flushing) other) in
+      omega (arith, one, two, same)
+
+  -- ---- several parts
+
+  abbrev pub together : List Part → Part
+  together parts = record { code = codes_along parts; after = lags_along parts }
+
+  pub no_parts : IsDone (together []) (in_sequence []) 0
+  unfolding in_sequence
+  no_parts = record {
+    does = λ k lag ways targets small stands reached s m at.
+        let none : k ≡ k + 0 = omega arith in
+        (m, leads_later code (Running m) (Running m) (leads_nowhere code (Running m)), subst (λ n. At n lag s m) none at);
+    bounded = λ lag. omega arith;
+    steady = λ lag ways other. refl;
+  }
+
+  after_flow : (targets : Targets) (end late middle lag : ℕ) (rest : Run Flow) → Does code turns (At middle lag) rest (Flows targets end late)
+      → (flow : Flow) → Does code turns (Flows targets middle lag flow) (after_statement rest flow) (Flows targets end late)
+  after_flow targets end late middle lag rest does Normal s m has = does s m has
+  after_flow targets end late middle lag rest does Break s m has = nothing code turns Break (At targets.left 0) (Flows targets end late) (stay (At targets.left 0)) s m has
+  after_flow targets end late middle lag rest does Continue s m has = nothing code turns Continue (At targets.again 0) (Flows targets end late) (stay (At targets.again 0)) s m has
+  after_flow targets end late middle lag rest does (Return value) s m has = nothing code turns (Return value) (Flows targets end late (Return value)) (Flows targets end late) (stay (Flows targets end late (Return value))) s m has
+
+  pub one_more : (part : Part) (run : Run Flow) (weight : ℕ) (parts : List Part) (runs : List (Run Flow)) (later : ℕ) → IsDone part run weight → IsDone (together parts) (in_sequence runs) later
+      → IsDone (together (part ∷ parts)) (in_sequence (run ∷ runs)) (weight + later)
+  one_more part run weight parts runs later done rest = record {
+    does = λ k lag ways targets small stands reached.
+        let middle = part.after lag in
+        let bound = done.bounded lag in
+        let ys = codes_along parts middle ways in
+        let xs = part.code lag (before (length ys) ways) in
+        let place = k + length (xs ++ ys) in
+        let whole : k + length xs + length ys ≡ place = omega (arith, length-append xs ys) in
+        let others : Does code turns (At (k + length xs) middle) (in_sequence runs) (Flows targets place (lags_along parts middle)) =
+        subst (λ e. Does code turns (At (k + length xs) middle) (in_sequence runs) (Flows targets e (lags_along parts middle))) whole
+        (rest.does (k + length xs) middle ways targets (omega arith) (second_stands code k xs ys stands) (subst (λ e. AreReached e ways targets) (sym whole) reached)) in
+        subst (λ r. Does code turns (At k lag) r (Flows targets place (lags_along parts middle))) (sym (in_sequence-next run runs))
+        (in_turn code turns (At k lag) run (Flows targets (k + length xs) middle) (after_statement (in_sequence runs)) (Flows targets place (lags_along parts middle))
+        (done.does k lag (before (length ys) ways) targets (omega arith) (first_stands code k xs ys stands) (reached_before (k + length xs) (length ys) place ways targets whole reached))
+        (after_flow targets place (lags_along parts middle) (k + length xs) middle (in_sequence runs) others));
+    bounded = λ lag. omega (arith, done.bounded lag, rest.bounded (part.after lag));
+    steady = λ lag ways other.
+        let middle = part.after lag in
+        let ys = codes_along parts middle ways in
+        let zs = codes_along parts middle other in
+        omega (arith, length-append (part.code lag (before (length ys) ways)) ys, length-append (part.code lag (before (length zs) other)) zs, done.steady lag (before (length ys) ways) (before (length zs) other), rest.steady middle ways other);
+  }
