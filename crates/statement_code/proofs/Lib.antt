@@ -1,4 +1,4 @@
-mod Choosing
-mod Turns
-mod Statements
+pub mod Choosing
+pub mod Turns
+pub mod Statements
 pub mod Parts

@@ -77,19 +77,22 @@ module _ (code : List ℕ) (turns : ℕ) (l : Layout) (laid : IsLaidOut l) (here
       → (u : MachineState) × Leads code (Running m) (Running u) × IsAfter (k + length (flush_code lag)) lag m u
   flush_after k lag args s m small stands at =
       let flush = flushed code k lag m small stands at.before at.agrees.halves in
-      let up = flush.2 in
-      (flush.0, flush.1, record {
-        before = up.before;
-        count = up.count;
-        low_fits = up.halves.0;
-        high_fits = up.halves.1;
-        based = up.others 3 (unequal 3 5 refl, unequal 3 6 refl, unequal 3 24 refl, unequal 3 25 refl);
-        flag = up.others 27 (unequal 27 5 refl, unequal 27 6 refl, unequal 27 24 refl, unequal 27 25 refl);
-        values = λ n least most. up.others n ((λ e. omega (arith, e)), (λ e. omega (arith, e)), (λ e. omega (arith, e)), (λ e. omega (arith, e)));
-        memory = up.memory;
-        input = up.input;
-        output = up.output;
-      })
+      let up = flush.2 in (
+        flush.0,
+        flush.1,
+        record {
+          before = up.before;
+          count = up.count;
+          low_fits = up.halves.0;
+          high_fits = up.halves.1;
+          based = up.others 3 (unequal 3 5 refl, unequal 3 6 refl, unequal 3 24 refl, unequal 3 25 refl);
+          flag = up.others 27 (unequal 27 5 refl, unequal 27 6 refl, unequal 27 24 refl, unequal 27 25 refl);
+          values = λ n least most. up.others n ((λ e. omega (arith, e)), (λ e. omega (arith, e)), (λ e. omega (arith, e)), (λ e. omega (arith, e)));
+          memory = up.memory;
+          input = up.input;
+          output = up.output;
+        },
+      )
 
   pub flush_moves : (k lag : ℕ) → lag < 2 ^ 31 → StandHere code k (flush_code lag) → Moves code (At k lag) (At (k + length (flush_code lag)) 0)
   flush_moves k lag small stands s m at =
@@ -111,20 +114,22 @@ module _ (code : List ℕ) (turns : ℕ) (l : Layout) (laid : IsLaidOut l) (here
       let jumped = jumps_are_done code (k + length flushing) target near own u (second_stands code k flushing jump stands) flush.2.before (omega (arith, ints, target_is, whole, long)) close in
       let v = jumped.0 in
       let way = jumped.2 in
-      let up = flush.2 in
-      (v, leads_both code 0 1 (Running m) (Running u) (Running v) (leads_later code (Running m) (Running u) flush.1) jumped.1,
-      with_after here.objects l target k lag values args s m v at (record {
-        before = way.before;
-        count = ap (λ x. cast_unsigned w32 (register v 25) * 2 ^ 32 + cast_unsigned w32 x) (way.others 24 (unequal 24 5 refl)) ∙ ap (λ x. cast_unsigned w32 x * 2 ^ 32 + cast_unsigned w32 (register u 24)) (way.others 25 (unequal 25 5 refl)) ∙ up.count;
-        low_fits = subst (FitsSigned w32) (sym (way.others 24 (unequal 24 5 refl))) up.low_fits;
-        high_fits = subst (FitsSigned w32) (sym (way.others 25 (unequal 25 5 refl))) up.high_fits;
-        based = way.others 3 (unequal 3 5 refl) ∙ up.based;
-        flag = way.others 27 (unequal 27 5 refl) ∙ up.flag;
-        values = λ n least most. way.others n (λ e. omega (arith, e)) ∙ up.values n least most;
-        memory = way.memory ∙ up.memory;
-        input = way.input ∙ up.input;
-        output = way.output ∙ up.output;
-      }))
+      let up = flush.2 in (
+        v,
+        leads_both code 0 1 (Running m) (Running u) (Running v) (leads_later code (Running m) (Running u) flush.1) jumped.1,
+        with_after here.objects l target k lag values args s m v at (record {
+          before = way.before;
+          count = ap (λ x. cast_unsigned w32 (register v 25) * 2 ^ 32 + cast_unsigned w32 x) (way.others 24 (unequal 24 5 refl)) ∙ ap (λ x. cast_unsigned w32 x * 2 ^ 32 + cast_unsigned w32 (register u 24)) (way.others 25 (unequal 25 5 refl)) ∙ up.count;
+          low_fits = subst (FitsSigned w32) (sym (way.others 24 (unequal 24 5 refl))) up.low_fits;
+          high_fits = subst (FitsSigned w32) (sym (way.others 25 (unequal 25 5 refl))) up.high_fits;
+          based = way.others 3 (unequal 3 5 refl) ∙ up.based;
+          flag = way.others 27 (unequal 27 5 refl) ∙ up.flag;
+          values = λ n least most. way.others n (λ e. omega (arith, e)) ∙ up.values n least most;
+          memory = way.memory ∙ up.memory;
+          input = way.input ∙ up.input;
+          output = way.output ∙ up.output;
+        }),
+      )
     where
       same_jump : (near : Bool) (one other : ℤ) → length (jump_code near one) ≡ length (jump_code near other)
       same_jump true one other = refl
