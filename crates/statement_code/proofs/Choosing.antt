@@ -1,5 +1,5 @@
 -- One of two parts by a condition.
-use Rattle.std.proofs.Common.{◌≡◌, ℕ, ◌+◌, ◌^◌, ◌<◌, ◌≤◌, pos, Bool, true, false, not, List, [], ◌∷◌, ◌++◌, length, length-append, refl, sym, ap, subst, arith}
+use Rattle.std.proofs.Common.{◌≡◌, ℕ, ◌+◌, ◌^◌, ◌<◌, ◌≤◌, pos, Bool, true, false, not, List, [], ◌∷◌, ◌++◌, length, length-append, sym, ap, subst, arith}
 use Rattle.std.proofs.lemmas.Int.{ints}
 use Rattle.source_runs.specs.declared.halt.Flow.{Flow}
 use Rattle.source_runs.specs.declared.halt.Flow.TheVariants.{Normal}
@@ -21,7 +21,7 @@ use Rattle.condition_code.specs.Laws.{Decided, one_if_met, weight_of_condition}
 use Rattle.condition_code.proofs.Conditions.{condition_does}
 use Rattle.statement_code.specs.Laws.{AreReached, IsTest, Targets}
 use Rattle.statement_code.specs.Code.{before, Part, choice, first_branch, guarded_code, reach_of, skip_code, whole_code}
-use Rattle.statement_code.proofs.Parts.{At, Flows, IsDone, flows_on, leaves, reached_before, stay, whole_done, whole_steady}
+use Rattle.statement_code.proofs.Parts.{At, Flows, IsDone, flows_on, leaves, left_steady, reached_before, stay, whole_done, whole_steady}
 
 swapped : (a b : Bond) (c : Bool) (s : _) (m : MachineState) → side a b (not c) s m → side b a c s m
 swapped a b true s m has = has
@@ -83,10 +83,6 @@ module _ (code : List ℕ) (turns : ℕ) (l : Layout) (laid : IsLaidOut l) (here
       let to = leaves code turns l laid here near has_result k 0 [] [] (pos words) (k + length (skip_code here.objects l near words) + words) s m (omega arith) stands (omega (arith, ints)) close at in
       (to.0, leads_at_all code 1 (Running m) (Running to.0) to.1, to.2)
 
-  skip_steady : (near : Bool) (one other : ℕ) → length (skip_code here.objects l near one) ≡ length (skip_code here.objects l near other)
-  skip_steady true one other = refl
-  skip_steady false one other = refl
-
   pub two_branches : (cond : IrTree) (this other : Part) (rest : List Part) (run otherwise : Run Flow) (weight more : ℕ) → IsTest l cond → Good this run weight → Good other otherwise more
       → Good (choice here.objects l near cond this (other ∷ rest)) (choosing (value_meaning here called cond) run otherwise) (weight_of_condition cond + weight + more)
   two_branches cond this other rest run otherwise weight more test done other_done = record {
@@ -125,6 +121,6 @@ module _ (code : List ℕ) (turns : ℕ) (l : Layout) (laid : IsLaidOut l) (here
         let others = whole_steady code turns l laid here near has_result other otherwise more other_done ways ways2 in
         let firsts = whole_steady code turns l laid here near has_result this run weight done own own2 in
         let same : length one ≡ length two =
-        omega (arith, firsts, skip_steady near (length o) (length p), length-append (whole_code this own) (skip_code here.objects l near (length o)), length-append (whole_code this own2) (skip_code here.objects l near (length p))) in
+        omega (arith, firsts, left_steady here.objects l near 0 (pos (length o)) (pos (length p)), length-append (whole_code this own) (skip_code here.objects l near (length o)), length-append (whole_code this own2) (skip_code here.objects l near (length p))) in
         omega (arith, others, guarded_steady cond lag one two same, length-append (guarded_code here.objects l near cond lag one) o, length-append (guarded_code here.objects l near cond lag two) p);
   }

@@ -1,9 +1,9 @@
 -- Parts one after the other, with the count brought up where paths meet.
-use Rattle.std.proofs.Common.{◌≡◌, ◌≢◌, ℕ, ◌+◌, ◌*◌, ◌^◌, ◌<◌, ◌≤◌, ℤ, pos, ◌+ℤ◌, Bool, true, false, ◌==◌, List, [], ◌∷◌, ◌++◌, length, length-append, refl, sym, ap, ◌∙◌, subst, arith}
+use Rattle.std.proofs.Common.{◌≡◌, ℕ, ◌+◌, ◌*◌, ◌^◌, ◌<◌, ◌≤◌, ℤ, pos, ◌+ℤ◌, Bool, true, false, List, [], ◌∷◌, ◌++◌, length, length-append, refl, sym, ap, ◌∙◌, subst, arith}
 use Rattle.std.specs.Prelude.{FitsSigned}
 use Rattle.std.specs.Int.{w32, cast_unsigned}
-use Rattle.std.proofs.lemmas.Bool.Decides.{nat_tests}
 use Rattle.std.proofs.lemmas.Int.{ints}
+use Rattle.operator_meaning.specs.declared.object.Object.{Object}
 use Rattle.source_runs.specs.declared.halt.Flow.{Flow}
 use Rattle.source_runs.specs.declared.halt.Flow.TheVariants.{Normal, Break, Continue, Return}
 use Rattle.source_runs.specs.Loops.{in_sequence, after_statement}
@@ -24,13 +24,22 @@ use Rattle.code_stacks.specs.Places.{Layout, IsLaidOut}
 use Rattle.code_stacks.specs.Agreement.{IsWith, With}
 use Rattle.code_stacks.proofs.Operands.{first_stands, second_stands}
 use Rattle.condition_code.specs.Code.{flush_code}
-use Rattle.condition_code.proofs.Flushing.{flushed}
+use Rattle.condition_code.proofs.Flushing.{flushed, unequal}
 use Rattle.condition_code.proofs.Deciding.{IsAfter, with_after}
 use Rattle.statement_code.specs.Laws.{AreReached, Led, Targets, result_of}
 use Rattle.statement_code.specs.Code.{Exits, before, Part, codes_along, lags_along, whole_code, left_code}
 
-unequal : (a b : ℕ) → (a == b) ≡ false → a ≢ b
-unequal a b apart e = grind (arith, nat_tests)
+-- a jump has the same length at each distance
+
+same_jump : (near : Bool) (d d2 : ℤ) → length (jump_code near d) ≡ length (jump_code near d2)
+same_jump true d d2 = refl
+same_jump false d d2 = refl
+
+pub left_steady : (objects : List Object) (l : Layout) (near : Bool) (lag : ℕ) (d d2 : ℤ) → length (left_code objects l near lag d) ≡ length (left_code objects l near lag d2)
+left_steady objects l near lag d d2 =
+    let one = jump_code near (pos (length (jump_code near d)) +ℤ d) in
+    let two = jump_code near (pos (length (jump_code near d2)) +ℤ d2) in
+    omega (arith, same_jump near (pos (length (jump_code near d)) +ℤ d) (pos (length (jump_code near d2)) +ℤ d2), length-append (flush_code lag) one, length-append (flush_code lag) two)
 
 -- ---- where parts lead
 
@@ -130,10 +139,6 @@ module _ (code : List ℕ) (turns : ℕ) (l : Layout) (laid : IsLaidOut l) (here
           output = way.output ∙ up.output;
         }),
       )
-    where
-      same_jump : (near : Bool) (one other : ℤ) → length (jump_code near one) ≡ length (jump_code near other)
-      same_jump true one other = refl
-      same_jump false one other = refl
 
   -- ---- what is not changed
 

@@ -13,7 +13,6 @@ use Rattle.ir_arena.specs.Tree.{IrTree, IrTrees, end, more}
 use Rattle.tree_meaning.specs.Parts.{NodeMeaning, openings}
 use Rattle.tree_meaning.specs.Trees.{node_meaning, node_meanings, statement_meaning, value_meaning}
 use Rattle.template_runs.specs.Machine.{StandHere}
-use Rattle.code_jumps.specs.Jumps.{jump_code}
 use Rattle.code_runs.specs.Doing.{Bond, Moves}
 use Rattle.code_runs.proofs.Parts.{in_turn, nothing}
 use Rattle.code_runs.proofs.Steps.{leads_at_all}
@@ -25,11 +24,10 @@ use Rattle.expression_code.specs.Laws.{AreScalars, Valued}
 use Rattle.expression_code.proofs.Expressions.{expression_does}
 use Rattle.simple_code.specs.Code.{is_simple, simple_code, weight_of_simple}
 use Rattle.simple_code.proofs.Simples.{simple_does}
-use Rattle.condition_code.specs.Code.{flush_code}
 use Rattle.condition_code.specs.Laws.{weight_of_condition}
 use Rattle.statement_code.specs.Laws.{AreStatements, IsSimple, IsStatement, IsTest, Led, Targets, result_of, weight_of_statement, weight_of_statements}
 use Rattle.statement_code.specs.Code.{Part, choice, left_code, part_of, parts_of}
-use Rattle.statement_code.proofs.Parts.{IsDone, heavier, leaves, no_parts, one_more, together}
+use Rattle.statement_code.proofs.Parts.{IsDone, heavier, leaves, left_steady, no_parts, one_more, together}
 use Rattle.statement_code.proofs.Choosing.{one_branch, two_branches}
 use Rattle.statement_code.proofs.Turns.{loop_done}
 
@@ -51,16 +49,6 @@ module _ (code : List ℕ) (l : Layout) (laid : IsLaidOut l) (here : Setting) (n
 
   -- ---- what leaves
 
-  same_jump : (near : Bool) (d d2 : ℤ) → length (jump_code near d) ≡ length (jump_code near d2)
-  same_jump true d d2 = refl
-  same_jump false d d2 = refl
-
-  left_steady : (lag : ℕ) (d d2 : ℤ) → length (left_code here.objects l near lag d) ≡ length (left_code here.objects l near lag d2)
-  left_steady lag d d2 =
-      let one = jump_code near (pos (length (jump_code near d)) +ℤ d) in
-      let two = jump_code near (pos (length (jump_code near d2)) +ℤ d2) in
-      omega (arith, same_jump near (pos (length (jump_code near d)) +ℤ d) (pos (length (jump_code near d2)) +ℤ d2), length-append (flush_code lag) one, length-append (flush_code lag) two)
-
   leaving : (k lag : ℕ) (values : List ℤ) (distance : ℤ) (target : ℕ) → lag < 2 ^ 31 → StandHere code k (left_code here.objects l near lag distance)
       → pos target ≡ pos (k + length (left_code here.objects l near lag distance)) +ℤ distance → target ≤ 16777216
       → Moves code (With here.objects l k lag (values ++ [])) (With here.objects l target 0 values)
@@ -74,14 +62,14 @@ module _ (code : List ℕ) (l : Layout) (laid : IsLaidOut l) (here : Setting) (n
         let place = k + length (left_code here.objects l near lag ways.again) in
         nothing code here.turns Continue (With here.objects l k lag []) (Ends targets place 0) (leaving k lag [] ways.again targets.again (omega (arith, small)) stands reached.again reached.again_near);
     bounded = λ lag. omega arith;
-    steady = λ lag ways other. left_steady lag ways.again other.again;
+    steady = λ lag ways other. left_steady here.objects l near lag ways.again other.again;
   }
   leave_done false = record {
     does = λ k lag ways targets small stands reached.
         let place = k + length (left_code here.objects l near lag ways.left) in
         nothing code here.turns Break (With here.objects l k lag []) (Ends targets place 0) (leaving k lag [] ways.left targets.left (omega (arith, small)) stands reached.left reached.left_near);
     bounded = λ lag. omega arith;
-    steady = λ lag ways other. left_steady lag ways.left other.left;
+    steady = λ lag ways other. left_steady here.objects l near lag ways.left other.left;
   }
 
   return_done : (value : IrTrees) → IsStatement l has_result (tree.Return value) → Done (tree.Return value)
@@ -93,7 +81,7 @@ module _ (code : List ℕ) (l : Layout) (laid : IsLaidOut l) (here : Setting) (n
         (subst (λ values. Moves code (With here.objects l k lag []) (With here.objects l targets.returned 0 values)) (sym (ap (λ has. result_of has (pos 0)) is))
         (leaving k lag [] ways.returned targets.returned (omega (arith, small)) stands reached.returned reached.returned_near));
     bounded = λ lag. omega arith;
-    steady = λ lag ways other. left_steady lag ways.returned other.returned;
+    steady = λ lag ways other. left_steady here.objects l near lag ways.returned other.returned;
   }
   return_done (more value rest) is = record {
     does = λ k lag ways targets small stands reached.
@@ -113,7 +101,7 @@ module _ (code : List ℕ) (l : Layout) (laid : IsLaidOut l) (here : Setting) (n
         let late = lag + weight_of value in
         let one = left_code here.objects l near late ways.returned in
         let two = left_code here.objects l near late other.returned in
-        omega (arith, left_steady late ways.returned other.returned, length-append xs one, length-append xs two);
+        omega (arith, left_steady here.objects l near late ways.returned other.returned, length-append xs one, length-append xs two);
   }
 
   -- ---- what goes on

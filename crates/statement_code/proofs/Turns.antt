@@ -1,5 +1,5 @@
 -- Turns of loops.
-use Rattle.std.proofs.Common.{◌≡◌, ℕ, ◌+◌, ◌^◌, ◌<◌, ◌≤◌, ℤ, pos, ◌+ℤ◌, ◌-ℤ◌, Bool, true, false, not, List, [], ◌++◌, length, map, length-append, refl, sym, subst, arith}
+use Rattle.std.proofs.Common.{◌≡◌, ℕ, ◌+◌, ◌^◌, ◌<◌, ◌≤◌, ℤ, pos, ◌+ℤ◌, ◌-ℤ◌, Bool, true, false, not, List, [], ◌++◌, length, map, length-append, sym, subst, arith}
 use Rattle.std.specs.Prelude.{slice_get}
 use Rattle.std.proofs.lemmas.Int.{ints}
 use Rattle.c_tree.specs.declared.expression.BinaryMark.{BinaryMark}
@@ -35,7 +35,7 @@ use Rattle.condition_code.proofs.Conditions.{condition_does}
 use Rattle.condition_code.proofs.Flushing.{same_length}
 use Rattle.statement_code.specs.Laws.{AreReached, AreSimple, AreTests, Targets, weight_of_tests}
 use Rattle.statement_code.specs.Code.{Exits, Part, entry_code, last_code, left_code, loop, nowhere, reach_of, simples_code, skip_code, test_code, turn_exits, turn_words, turns_code, weight_of_all, whole_code}
-use Rattle.statement_code.proofs.Parts.{At, Flows, IsDone, flush_moves, leaves, stay, whole_done, whole_steady}
+use Rattle.statement_code.proofs.Parts.{At, Flows, IsDone, flush_moves, leaves, left_steady, stay, whole_done, whole_steady}
 use Rattle.statement_code.proofs.Choosing.{skips}
 
 -- ---- conditions have the same length at each distance
@@ -153,10 +153,6 @@ module _ (code : List ℕ) (l : Layout) (laid : IsLaidOut l) (here : Setting) (n
   abbrev pub tested : IrTrees → Run ℤ
   tested cond = condition_or_one (slice_get (map (λ (part : NodeMeaning). part.value) (node_meanings here called cond)) 0)
 
-  left_steady : (near : Bool) (d d2 : ℤ) → length (left_code here.objects l near 0 d) ≡ length (left_code here.objects l near 0 d2)
-  left_steady true d d2 = refl
-  left_steady false d d2 = refl
-
   abbrev tests : (words : ℕ) → IrTrees → List Instr
   tests = test_code here.objects l near
 
@@ -165,7 +161,7 @@ module _ (code : List ℕ) (l : Layout) (laid : IsLaidOut l) (here : Setting) (n
   test_does end words begin k are small back stands s m at =
       let d = pos 0 -ℤ pos (words + length (left_code here.objects l near 0 (pos 0))) in
       let within = stands.within in
-      leaves code here.turns l laid here near has_result k 0 [] [] d begin s m (omega arith) stands (omega (arith, ints, back, left_steady near d (pos 0))) (omega (arith, within, back)) at
+      leaves code here.turns l laid here near has_result k 0 [] [] d begin s m (omega arith) stands (omega (arith, ints, back, left_steady here.objects l near 0 d (pos 0))) (omega (arith, within, back)) at
   test_does (more cond rest) words begin k are small back stands s m at =
       let reach = reach_of words in
       let d = pos 0 -ℤ pos (words + length (condition_code here.objects l reach 0 cond true 0 (pos 0))) in
