@@ -1,6 +1,6 @@
 -- What holds of each function: one that is declared alone, and one that is defined. Item by item.
 use Rattle.std.proofs.Common.{◌≡◌, ℕ, zero, suc, ◌+◌, ◌<◌, List, [], ◌∷◌, Bool, true, false, length, refl, inl, inr, arith, ◌∙◌}
-use Rattle.std.specs.Prelude.{◌&&◌, nat_lt, slice_set, Option, Some, None}
+use Rattle.std.specs.Prelude.{flat_map, ◌&&◌, nat_lt, slice_set, Option, Some, None}
 use Rattle.std.specs.List.{list_all}
 use Rattle.std.proofs.lemmas.Bool.{cases_Bool}
 use Rattle.std.proofs.lemmas.Bool.Decides.{nat_tests}
@@ -25,6 +25,11 @@ left false b p = p
 pub right : (a b : Bool) → (a && b) ≡ true → b ≡ true
 right true b p = p
 right false b p = cc
+
+-- what passes in each passes in all
+pub all-flat : {A B : Type 0} (parts : A → List B) (test : B → Bool) (xs : List A) → list_all (λ x. list_all test (parts x)) xs ≡ true → list_all test (flat_map parts xs) ≡ true
+all-flat parts test [] p = refl
+all-flat parts test (x ∷ xs) p = list_all-append test (parts x) (flat_map parts xs) ∙ both _ _ (left (list_all test (parts x)) _ p) (all-flat parts test xs (right (list_all test (parts x)) _ p))
 
 -- what is asked of the body of a function, and of all bodies
 abbrev pub GoodBody : (Function → Block → Type 0) → Function → Option Block → Type 0

@@ -4,3 +4,8 @@ pub mod Sound
 pub mod Sites
 pub mod Endings
 pub mod Objects
+pub mod Whole
+pub mod Returning
+pub mod Leaving
+pub mod ReturnsFit
+pub mod StaticViews

@@ -42,8 +42,13 @@ use Rattle.lawful_sources.proofs.Passing.{Each}
 use Rattle.lawful_laws.proofs.Functions.{both}
 use Rattle.lawful_laws.proofs.Statements.{earlier, later, tail, head}
 
-deeper : (depth : ℕ) → nat_lt 0 (suc depth) ≡ true
+pub deeper : (depth : ℕ) → nat_lt 0 (suc depth) ≡ true
 deeper depth = grind (arith, nat_tests)
+
+pub declared-sound : (sound : Seen → Bool) (names : Names) (depth : ℕ) (decl : Decl) → Each sound (seen_in_declared names depth decl) → sound (seen.Object (object decl (nat_lt 0 depth))) ≡ true
+declared-sound sound names depth decl p =
+    head sound _ _ (tail sound (seen.Name decl.name.at (is_taken names decl.name.name depth false)) _
+    (later sound (initialiser names decl decl.init) _ (later sound (dimension names decl.cols) _ (later sound (dimension names decl.rows) _ p))))
 
 -- of an object of a function, of one at file scope, and of a parameter
 pub record HoldsOfObjects (sound : Seen → Bool) (holds : Object → Bool) : Type 0 where
@@ -55,13 +60,8 @@ module _ (sound : Seen → Bool) (holds : Object → Bool) (each : HoldsOfObject
   added : (objects : List Object) (one : Object) → list_all holds objects ≡ true → holds one ≡ true → list_all holds (objects ++ one ∷ []) ≡ true
   added objects one p q = list_all-append holds objects (one ∷ []) ∙ both (list_all holds objects) _ p (both (holds one) true q refl)
 
-  declared-sound : (names : Names) (depth : ℕ) (decl : Decl) → Each sound (seen_in_declared names depth decl) → sound (seen.Object (object decl (nat_lt 0 depth))) ≡ true
-  declared-sound names depth decl p =
-      head sound _ _ (tail sound (seen.Name decl.name.at (is_taken names decl.name.name depth false)) _
-      (later sound (initialiser names decl decl.init) _ (later sound (dimension names decl.cols) _ (later sound (dimension names decl.rows) _ p))))
-
   inner-holds : (names : Names) (depth : ℕ) (decl : Decl) (function : ℕ) (exposed : Bool) → nat_lt 0 depth ≡ true → Each sound (seen_in_declared names depth decl) → holds (object_of decl (Some function) exposed) ≡ true
-  inner-holds names depth decl function exposed deep p = each.inner decl function exposed (ap (λ (b : Bool). sound (seen.Object (object decl b))) (sym deep) ∙ declared-sound names depth decl p)
+  inner-holds names depth decl function exposed deep p = each.inner decl function exposed (ap (λ (b : Bool). sound (seen.Object (object decl b))) (sym deep) ∙ declared-sound sound names depth decl p)
 
   starts-hold : (here : Here) (function : ℕ) (names : Names) (depth : ℕ) (decls : List Decl) → nat_lt 0 depth ≡ true → Each sound (seen_in_objects names depth decls)
       → list_all holds here.objects ≡ true → list_all holds (starts_of here function decls).after.objects ≡ true
@@ -163,7 +163,7 @@ module _ (sound : Seen → Bool) (holds : Object → Bool) (each : HoldsOfObject
   outer-hold here names (decl ∷ decls) p q =
       outer-hold (after_declared here None decl) (scope.after_declared names 0 decl) decls
       (later sound (seen_in_declared names 0 decl) (seen_in_objects (scope.after_declared names 0 decl) 0 decls) p)
-      (added here.objects _ q (each.outer decl (is_exposed here.exposed (length here.objects)) (declared-sound names 0 decl (earlier sound (seen_in_declared names 0 decl) (seen_in_objects (scope.after_declared names 0 decl) 0 decls) p))))
+      (added here.objects _ q (each.outer decl (is_exposed here.exposed (length here.objects)) (declared-sound sound names 0 decl (earlier sound (seen_in_declared names 0 decl) (seen_in_objects (scope.after_declared names 0 decl) 0 decls) p))))
 
   named-holds : (here : Here) (one : Object) (name : Option Named) → list_all holds here.objects ≡ true → holds one ≡ true → list_all holds (after_named here one name).objects ≡ true
   named-holds here one None p q = added here.objects one p q

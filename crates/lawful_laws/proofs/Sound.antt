@@ -2,7 +2,6 @@
 use Rattle.std.proofs.Common.{◌≡◌, ℕ, ◌+◌, List, [], ◌∷◌, ◌++◌, Bool, true, false, map, refl, ap, ◌∙◌, subst}
 use Rattle.std.specs.Prelude.{flat_map, MatchOption, Option, Some, None, is_some}
 use Rattle.std.specs.List.{list_all}
-use Rattle.std.proofs.lemmas.List.Folds.{list_all-append}
 use Rattle.sat_base.specs.declared.fault.Fault.{Fault}
 use Rattle.c_tree.specs.declared.function.Function.{Function}
 use Rattle.c_tree.specs.declared.program.Item.{Item}
@@ -31,7 +30,7 @@ use Rattle.c_types.specs.Tied.{IsTyped, notes_of}
 use Rattle.lawful_sources.specs.Things.{Thing}
 use Rattle.lawful_sources.specs.Statements.{in_function}
 use Rattle.lawful_sources.specs.Lawful.{Everywhere}
-use Rattle.lawful_laws.proofs.Functions.{both, left, right, AllGood, GoodBody, after-all}
+use Rattle.lawful_laws.proofs.Functions.{all-flat, AllGood, GoodBody, after-all}
 use Rattle.lawful_sources.proofs.Passing.{Each}
 use Rattle.lawful_laws.proofs.Statements.{Follows, earlier, later, tail, block-stands}
 
@@ -39,11 +38,11 @@ none-left : {A : Type 0} (xs ys : List A) → xs ++ ys ≡ [] → xs ≡ []
 none-left [] ys p = refl
 none-left (x ∷ xs) ys p = cc
 
-none-right : {A : Type 0} (xs ys : List A) → xs ++ ys ≡ [] → ys ≡ []
+pub none-right : {A : Type 0} (xs ys : List A) → xs ++ ys ≡ [] → ys ≡ []
 none-right [] ys p = p
 none-right (x ∷ xs) ys p = cc
 
-no-fault : (faults : List Fault) → first_of faults ≡ None → faults ≡ []
+pub no-fault : (faults : List Fault) → first_of faults ≡ None → faults ≡ []
 no-fault faults is = subst (λ (o : Option Fault). MatchOption o (faults ≡ []) (IsLeast faults)) is (first-least faults)
 
 -- what is seen in the body of a function is sound
@@ -103,10 +102,5 @@ module _ (sound : Seen → Bool) (each : (s : Seen) → faults_at s ≡ [] → s
         body-sound (after_parameters inside function.params) function function.body
         (later sound (seen_in_parameters inside (is_some function.body) function.params) (seen_in_body (after_parameters inside function.params) function function.body) parts)
 
-    everywhere : (functions : List TypedFunction) → list_all holds functions ≡ true → list_all test (flat_map (in_function source) functions) ≡ true
-    everywhere [] p = refl
-    everywhere (f ∷ functions) p =
-        list_all-append test (in_function source f) (flat_map (in_function source) functions) ∙ both _ _ (left (holds f) (list_all holds functions) p) (everywhere functions (right (holds f) (list_all holds functions) p))
-
     pub stands : (program : Program) → IsTyped program source → Everywhere source test
-    stands program typed = everywhere source.functions (functions-hold holds (IsSound sound) bare whole function-sound program source typed)
+    stands program typed = all-flat (in_function source) test source.functions (functions-hold holds (IsSound sound) bare whole function-sound program source typed)

@@ -1,6 +1,6 @@
 -- What it means of one thing seen that it has no fault: each row of the table of faults tells none.
-use Rattle.std.proofs.Common.{◌≡◌, List, [], ◌∷◌, Bool, true, refl}
-use Rattle.std.specs.Prelude.{Option, Some, None}
+use Rattle.std.proofs.Common.{◌≡◌, List, [], ◌∷◌, Bool, true, false, refl}
+use Rattle.std.specs.Prelude.{Option, Some, None, not}
 use Rattle.sat_base.specs.declared.fault.Fault.{Fault}
 use Rattle.sat_base.specs.declared.fault.FaultKind.{FaultKind}
 use Rattle.sat_base.specs.declared.fault.FaultKind.TheVariants as fault
@@ -8,11 +8,16 @@ use Rattle.sat_base.specs.declared.name.At.{At}
 use Rattle.c_seen.specs.declared.seen.Seen.{Seen}
 use Rattle.c_seen.specs.Sources.{is_empty}
 use Rattle.c_faults.specs.Faults.{rows, faults_at}
-use Rattle.c_faults.specs.Rows.{unknown_name, duplicate_name, argument_count, number_needed, not_an_array, not_a_function, const_written, bad_initialiser, void_value, element_width, wrong_shape, bad_length, view_needed, declarations_differ, no_definition, defined_twice, main_called, pointer_use, no_main}
+use Rattle.c_faults.specs.Rows.{at_if, unknown_name, duplicate_name, argument_count, number_needed, not_an_array, not_a_function, const_written, bad_initialiser, void_value, element_width, wrong_shape, bad_length, view_needed, declarations_differ, no_definition, defined_twice, main_called, pointer_use, no_main}
 use Rattle.c_faults.specs.Told.{told, kept}
 
 pub never : {A : Type 0} (x : A) → Some x ≡ None → ⊥
 never x p = cc
+
+-- what no fault is told of holds
+pub true-by : (is : Bool) (at : At) → at_if (not is) at ≡ None → is ≡ true
+true-by true at p = refl
+true-by false at p = absurd (never at p)
 
 -- the rows that names and objects need
 pub record Clean (s : Seen) : Type 0 where

@@ -4,7 +4,6 @@ use Rattle.std.specs.Prelude.{not, ◌&&◌, ◌==◌, if◌then◌else◌, Opti
 use Rattle.std.specs.List.{sum_by}
 use Rattle.sat_base.specs.declared.fault.FaultKind.TheVariants as fault
 use Rattle.sat_base.specs.declared.limits.TheConstants.{OBJECT_BYTES}
-use Rattle.sat_base.specs.declared.name.At.{At}
 use Rattle.sat_base.specs.declared.width.Width.{Width}
 use Rattle.sat_base.specs.declared.width.Width.TheVariants.{W16, W32}
 use Rattle.c_tree.specs.declared.declaration.Decl.{Decl}
@@ -19,14 +18,13 @@ use Rattle.c_seen.specs.Sources.{seen_in_items, seen_of, end_of}
 use Rattle.c_faults.specs.declared.limits.Quantity.TheVariants as of
 use Rattle.c_faults.specs.Faults.{limits}
 use Rattle.c_faults.specs.Limits.{bytes_of, amount, passed}
-use Rattle.c_faults.specs.Rows.{at_if}
 use Rattle.tied_objects.specs.Objects.{object_of}
 use Rattle.c_types.specs.Sources.{after_items}
 use Rattle.c_types.specs.Tied.{IsTyped}
 use Rattle.lawful_sources.specs.Lawful.{bytes_of_width, bytes_of_object}
 use Rattle.lawful_laws.proofs.Functions.{left, right}
 use Rattle.lawful_names.specs.Spelled.{has_elements, AllSpelled}
-use Rattle.lawful_names.proofs.Clean.{AllNone, none-kept, untold, never}
+use Rattle.lawful_names.proofs.Clean.{AllNone, none-kept, untold, true-by}
 use Rattle.lawful_names.proofs.Faultless.{seen-clean, no-limit}
 use Rattle.lawful_names.proofs.MeasuredItems.{Measures, items-measure}
 use Rattle.lawful_names.proofs.Shapes.{kind_by, factors, itself, is_sound, sound-clean, sound-spelled, all-sound}
@@ -55,7 +53,7 @@ table-count : (rows : ℕ) (columns : Option ℕ) → not (unwrap_or (option_map
 table-count rows None p = cc
 table-count rows (Some columns) p = counted-table rows columns (factors rows columns p)
 
-declared-count : (pointer array : Bool) (cols : Option Dim) (rows : Option ℕ) → array ≡ (not pointer && array) → has_elements (kind_by pointer array cols) (elements_by (kind_by pointer array cols) (elements_in rows cols)) ≡ true
+pub declared-count : (pointer array : Bool) (cols : Option Dim) (rows : Option ℕ) → array ≡ (not pointer && array) → has_elements (kind_by pointer array cols) (elements_by (kind_by pointer array cols) (elements_in rows cols)) ≡ true
     → pointer ≡ false → counted (if array then unwrap_or rows 0 else 0) (if array then unwrap_or (columns_in cols) 0 else 0) ≡ elements_by (kind_by pointer array cols) (elements_in rows cols)
 declared-count true array cols rows is p q = cc
 declared-count false false cols rows is p q = refl
@@ -69,10 +67,6 @@ at-most a b p = omega arith
 bytes-by : (pointer : Bool) (count elements : ℕ) (width : Width) → (pointer ≡ false → count ≡ elements) → (if pointer then 0 else count * bytes_of_width width) ≤ elements * bytes_of width
 bytes-by true count elements width p = omega arith
 bytes-by false count elements width p = at-most _ _ (ap (λ (n : ℕ). n * bytes_of_width width) (p refl) ∙ ap (λ (n : ℕ). elements * n) (same-bytes width))
-
-named-by : (named : Bool) (at : At) → at_if (not named) at ≡ None → named ≡ true
-named-by true at p = refl
-named-by false at p = absurd (never at p)
 
 parameter-bytes : (named view : Bool) (width : Width) → named ≡ true → (if view then 0 else 1 * bytes_of_width width) ≤ (if named && not view then bytes_of width else 0)
 parameter-bytes false view width p = cc
@@ -89,7 +83,7 @@ measures : (source : Typed) → Measures source is_sound bytes_of_object (amount
 measures source = record {
   of = λ number whole. record {
     inner = λ decl exposed p. object-bytes decl true (Some number) exposed p;
-    parameters = λ param exposed p. parameter-bytes (is_some param.name) (is_view param) param.width (named-by (is_some param.name) param.type_at (sound-clean (seen.Parameter (parameter param true)) p).duplicate);
+    parameters = λ param exposed p. parameter-bytes (is_some param.name) (is_view param) param.width (true-by (is_some param.name) param.type_at (sound-clean (seen.Parameter (parameter param true)) p).duplicate);
   };
   outer = λ decl exposed p. object-bytes decl false None exposed p;
 }

@@ -29,7 +29,7 @@ use Rattle.c_seen.specs.Declarations as scope
 use Rattle.c_seen.specs.Declarations.{object, dimension, initialiser, is_static, wanted_of, meaning_of_declared, seen_in_declared, seen_in_objects, seen_in_lists, after_lists}
 use Rattle.c_seen.specs.Expressions.{seen_in_argument}
 use Rattle.c_seen.specs.Functions.{is_view}
-use Rattle.c_seen.specs.Meanings.{Names, kind_of, is_taken}
+use Rattle.c_seen.specs.Meanings.{Names, kind_of}
 use Rattle.c_faults.specs.Rows.{at_if}
 use Rattle.tied_names.specs.declared.tie.Asked.{Asked}
 use Rattle.tied_names.specs.declared.tie.Asked.TheVariants as asks
@@ -42,7 +42,8 @@ use Rattle.lawful_sources.specs.Things.{Taken, Number, View, Thing, taken_by, ta
 use Rattle.lawful_sources.specs.Expressions.{argument_look, in_argument}
 use Rattle.lawful_sources.specs.Statements.{in_value_of, in_start}
 use Rattle.lawful_sources.proofs.Passing.{Each, none, next, joined}
-use Rattle.lawful_laws.proofs.Statements.{earlier, later, tail, head}
+use Rattle.lawful_laws.proofs.Objects.{declared-sound}
+use Rattle.lawful_laws.proofs.Statements.{earlier, later}
 use Rattle.lawful_names.proofs.Agreement.{Near, is_pointing, newest-agrees}
 use Rattle.lawful_names.proofs.Clean.{Clean, never}
 use Rattle.lawful_names.proofs.Expressions.{argument-stands}
@@ -89,9 +90,7 @@ module _ (source : Typed) (items : List Item) (Shaped : Kind → Object → Type
       }
 
   pub object-sound : (names : Names) (depth : ℕ) (decl : Decl) → Each sound (seen_in_declared names depth decl) → sound (seen.Object (object decl (nat_lt 0 depth))) ≡ true
-  object-sound names depth decl p =
-      head sound _ _ (tail sound (seen.Name decl.name.at (is_taken names decl.name.name depth false)) _
-      (later sound (initialiser names decl decl.init) _ (later sound (dimension names decl.cols) _ (later sound (dimension names decl.rows) _ p))))
+  object-sound names depth decl p = declared-sound sound names depth decl p
 
 -- ---- starts
 
@@ -117,13 +116,13 @@ pub no-array : (array rest : Bool) (at : At) → at_if (array || rest) at ≡ No
 no-array true rest at p = absurd (never at p)
 no-array false rest at p = refl
 
-wanted-start : (decl : Decl) (pointer array line : Bool) → array ≡ false → wanted_of (if pointer then kinds.View else (if not array then kinds.Scalar else (if line then kinds.Array else kinds.Table))) decl
+pub wanted-start : (decl : Decl) (pointer array line : Bool) → array ≡ false → wanted_of (if pointer then kinds.View else (if not array then kinds.Scalar else (if line then kinds.Array else kinds.Table))) decl
     ≡ wanted_for (if pointer then View decl.width decl.is_const else Number decl.width)
 wanted-start decl true array line p = refl
 wanted-start decl false true line p = cc
 wanted-start decl false false line p = refl
 
-asked-start : (pointer : Bool) (width : Width) (is_const : Bool) → (if pointer then asks.View else asks.Number width) ≡ asked_for (if pointer then View width is_const else Number width)
+pub asked-start : (pointer : Bool) (width : Width) (is_const : Bool) → (if pointer then asks.View else asks.Number width) ≡ asked_for (if pointer then View width is_const else Number width)
 asked-start true width is_const = refl
 asked-start false width is_const = refl
 

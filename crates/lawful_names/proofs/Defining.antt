@@ -28,7 +28,7 @@ use Rattle.lawful_names.proofs.Clean.{Clean}
 use Rattle.lawful_names.proofs.Keeping.{State, number_in, Keeps, Covers, Fresh, Kept, passed, found, get-append, get-set, get-if, some-same, parameters-are, keeps-other, Entry, own_number, own_functions, kept-alike, entry-of}
 use Rattle.lawful_names.proofs.Within.{Within, within-more, block-grows}
 
-get-defined : (functions : List TypedFunction) (number : ℕ) (one typed : TypedFunction) → slice_get functions number ≡ Some typed → slice_get (defining functions number one) number ≡ Some one
+pub get-defined : (functions : List TypedFunction) (number : ℕ) (one typed : TypedFunction) → slice_get functions number ≡ Some typed → slice_get (defining functions number one) number ≡ Some one
 get-defined functions number one typed p =
     let less : number < length functions = slice_get_within functions number typed p in
     let within : nat_lt number (length functions) ≡ true = grind (arith, nat_tests) in rw within (get-set functions number one less)

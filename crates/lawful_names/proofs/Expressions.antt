@@ -32,7 +32,6 @@ use Rattle.c_seen.specs.declared.seen.Marks.TheVariants as with_marks
 use Rattle.c_seen.specs.declared.seen.Meaning.{Meaning}
 use Rattle.c_seen.specs.declared.seen.Need.TheVariants as needs
 use Rattle.c_seen.specs.declared.seen.Seen.{Seen}
-use Rattle.c_seen.specs.declared.seen.Seen.TheVariants as seen
 use Rattle.c_seen.specs.declared.seen.View.{View as SeenView}
 use Rattle.c_seen.specs.declared.seen.Wanted.{Wanted}
 use Rattle.c_seen.specs.declared.seen.Wanted.TheVariants as wants
@@ -52,16 +51,14 @@ use Rattle.lawful_sources.specs.Expressions.{Look, Argued, Placed, Calling, argu
 use Rattle.lawful_sources.proofs.Passing.{Each, none, next, joined, call-is, expression-is}
 use Rattle.lawful_laws.proofs.Statements.{earlier, later, tail, head}
 use Rattle.lawful_names.proofs.Agreement.{Near}
-use Rattle.lawful_names.proofs.Calls.{TakesAt, CallFits, call_seen, call-fits, called-no-view}
-use Rattle.lawful_names.proofs.Clean.{Clean, never}
-use Rattle.lawful_names.proofs.Fitting.{Purpose, Reads, Gives, ampersand_of, need_for, use_of, marks_of, wanted_for, asked_for, need_if, Fits, place-fits}
+use Rattle.lawful_names.proofs.Calls.{TakesAt, CallFits, call_seen, call-fits}
+use Rattle.lawful_names.proofs.Clean.{Clean}
+use Rattle.lawful_names.proofs.Fitting.{Purpose, Reads, Gives, ampersand_of, need_for, use_of, marks_of, view_of, wanted_for, asked_for, need_if, Fits, place-fits}
 use Rattle.lawful_names.proofs.Looks as looks
+use Rattle.lawful_names.proofs.NoViews.{viewed-no, call-no-view, no-address}
 
 module _ (source : Typed) (items : List Item) (Shaped : Kind → Object → Type 0) (sound : Seen → Bool) (clean : (s : Seen) → sound s ≡ true → Clean s)
     (test : Thing → Bool) (fits : Fits source items Shaped sound test) where
-  abbrev pub view_of : Width → Bool → SeenView
-  view_of width is_const = record { width = width; is_const = is_const }
-
   -- an expression by what stands in its brackets: where a number is needed, and where a view is
   abbrev pub KindStands : ExprKind → Type 0
   KindStands x = (names : Names) (here : Here) → Near source items Shaped names here
@@ -86,9 +83,6 @@ module _ (source : Typed) (items : List Item) (Shaped : Kind → Object → Type
       → Each sound (seen_in_argument x names (wanted_for taken)) → Each test (in_argument source (tied_argument x here (asked_for taken)).value (Some taken))
 
   -- ---- steps
-
-  no-view : (at : At) (rest : List Seen) → Each sound (seen.NoView at ∷ rest) → ⊥
-  no-view at rest p = never at (clean _ (head sound _ _ p)).view
 
   one-conversion : (width : Option Width) (things : List Thing) → Each test things → Each test (Conversion width width ∷ things)
   one-conversion width things p = next test _ things (fits.conversions width) p
@@ -119,15 +113,6 @@ module _ (source : Typed) (items : List Item) (Shaped : Kind → Object → Type
       subst (λ (t : Tied TypedExprKind). Each test ((kind_look source t.value).stands None)) (sym tied)
       (subst (λ (l : Look). Each test (l.stands None)) (sym is) (what (subst (λ (l : List Seen). Each sound l) sees p)))
 
-  -- what is no place is no view
-  viewed-no : (x : ExprKind) (names : Names) (at : At) (view : SeenView) (rest : List Seen) (X : Type 0) → seen_in_kind x names (needs.View view at) ≡ seen.NoView at ∷ rest → Each sound (seen_in_kind x names (needs.View view at)) → X
-  viewed-no x names at view rest X sees p = absurd (no-view at rest (subst (λ (l : List Seen). Each sound l) sees p))
-
-  call-no-view : (call : Call) (names : Names) (at : At) (view : SeenView) → Each sound (seen_in_call call names (needs.View view at)) → ⊥
-  call-no-view call names at view p =
-      called-no-view call.name.at (called_by names call.name.name) (length call.args) view at
-      (clean _ (head sound _ _ (subst (λ (l : List Seen). Each sound l) (sees.call-arguments call names (needs.View view at)) p)))
-
   address-stands : (at : At) (purpose : Purpose) (taken : Taken) → use_of purpose ≡ Given (Some taken) → (named : TypedPlace) → test (Argument true (Some taken)) ≡ true
       → Each test (in_place source named (use_of purpose)) → Each test (in_argument source (argument.Address at named) (Some taken))
   unfolding of_argument
@@ -156,13 +141,6 @@ module _ (source : Typed) (items : List Item) (Shaped : Kind → Object → Type
       → Each sound (placed name marks names (ampersand_of purpose) (need_for purpose) ∷ list) → Each test things → Each test (ThePlace (object_of here name.name).number (marks_of marks) (use_of purpose) ∷ things)
   one-place name marks purpose names here near list things p rest =
       next test _ things (place-fits source items Shaped sound test fits name.at name.name marks purpose (meaning names name.name) (tie_of here name.name) (near.agree name.name) (head sound _ _ p) (clean _ (head sound _ _ p))) rest
-
-  no-address-of : (at : At) (marks : SeenMarks) (m : Option Meaning) → Clean (seen.Place (record { at = at; marks = marks; ampersand = true; meaning = m; need = needs.Number })) → ⊥
-  no-address-of at marks None c = never at c.unknown
-  no-address-of at marks (Some m) c = never at c.number
-
-  no-address : (x : Place) (name : Named) (marks : SeenMarks) (names : Names) (list : List Seen) → seen_in_place x names true needs.Number ≡ placed name marks names true needs.Number ∷ list → Each sound (seen_in_place x names true needs.Number) → ⊥
-  no-address x name marks names list is p = no-address-of name.at marks (meaning names name.name) (clean _ (head sound _ _ (subst (λ (l : List Seen). Each sound l) is p)))
 
   -- ---- calls and arguments
 
@@ -216,7 +194,7 @@ module _ (source : Typed) (items : List Item) (Shaped : Kind → Object → Type
   unfolding of_kind
   on_kind (node.Int value) = subst KindStands (sym (kind.rolls-Int value)) (λ names here near. (
     number-by _ names here _ _ _ (said.tied-Int value here) (sees.sees-Int value names needs.Number) (looks.kind-Int source value) (λ p. one-conversion None [] (none test)),
-    λ at view. viewed-no _ names at view _ _ (sees.sees-Int value names (needs.View view at)),
+    λ at view. viewed-no sound clean _ names at view _ _ (sees.sees-Int value names (needs.View view at)),
   ))
   on_kind (node.Read named) = subst KindStands (sym (kind.rolls-Read named.0)) (λ names here near. (
     number-by _ names here _ _ _ (said.tied-Read named.0 here) (sees.sees-Read named.0 names needs.Number) (looks.kind-Read source _) (λ p. one-conversion None _ ((named.1 names here near).0 Reads p)),
@@ -224,34 +202,34 @@ module _ (source : Typed) (items : List Item) (Shaped : Kind → Object → Type
   ))
   on_kind (node.ReadOverflow word_at) = subst KindStands (sym (kind.rolls-ReadOverflow word_at)) (λ names here near. (
     number-by _ names here _ _ _ (said.tied-ReadOverflow word_at here) (sees.sees-ReadOverflow word_at names needs.Number) (looks.kind-ReadOverflow source word_at) (λ p. one-conversion None [] (none test)),
-    λ at view. viewed-no _ names at view _ _ (sees.sees-ReadOverflow word_at names (needs.View view at)),
+    λ at view. viewed-no sound clean _ names at view _ _ (sees.sees-ReadOverflow word_at names (needs.View view at)),
   ))
   on_kind (node.Unary mark mark_at part) = subst KindStands (sym (kind.rolls-Unary mark mark_at part.0)) (λ names here near. (
     number-by _ names here _ _ _ (said.tied-Unary mark mark_at part.0 here) (sees.sees-Unary mark mark_at part.0 names needs.Number) (looks.kind-Unary source mark mark_at _ _)
         (λ p. one-conversion None _ (one-mark mark_at _ _ _ (expression-number part.0 part.1 names here near p))),
-    λ at view. viewed-no _ names at view _ _ (sees.sees-Unary mark mark_at part.0 names (needs.View view at)),
+    λ at view. viewed-no sound clean _ names at view _ _ (sees.sees-Unary mark mark_at part.0 names (needs.View view at)),
   ))
   on_kind (node.Binary mark mark_at one other) = subst KindStands (sym (kind.rolls-Binary mark mark_at one.0 other.0)) (λ names here near. (
     number-by _ names here _ _ _ (said.tied-Binary mark mark_at one.0 other.0 here) (sees.sees-Binary mark mark_at one.0 other.0 names needs.Number) (looks.kind-Binary source mark mark_at _ _ _)
         (λ p. one-conversion None _ (joined test _ _ (expression-number one.0 one.1 names here near (earlier sound _ _ p)) (one-mark mark_at _ _ _ (joined test _ _ (values _)
         (expression-number other.0 other.1 names here near (later sound (constants_in mark (constant_of_kind one.0.kind one.0.at) (constant_of_kind other.0.kind other.0.at)) _ (later sound (seen_in_expression one.0 names needs.Number) _ p))))))),
-    λ at view. viewed-no _ names at view _ _ (sees.sees-Binary mark mark_at one.0 other.0 names (needs.View view at)),
+    λ at view. viewed-no sound clean _ names at view _ _ (sees.sees-Binary mark mark_at one.0 other.0 names (needs.View view at)),
   ))
   on_kind (node.Cast width part) = subst KindStands (sym (kind.rolls-Cast width part.0)) (λ names here near. (
     number-by _ names here _ _ _ (said.tied-Cast width part.0 here) (sees.sees-Cast width part.0 names needs.Number) (looks.kind-Cast source width _)
         (λ p. one-conversion None _ (expression-number part.0 part.1 names here near p)),
-    λ at view. viewed-no _ names at view _ _ (sees.sees-Cast width part.0 names (needs.View view at)),
+    λ at view. viewed-no sound clean _ names at view _ _ (sees.sees-Cast width part.0 names (needs.View view at)),
   ))
   on_kind (node.Choose cond one other) = subst KindStands (sym (kind.rolls-Choose cond.0 one.0 other.0)) (λ names here near. (
     number-by _ names here _ _ _ (said.tied-Choose cond.0 one.0 other.0 here) (sees.sees-Choose cond.0 one.0 other.0 names needs.Number) (looks.kind-Choose source _ _ _)
         (λ p. one-conversion None _ (joined test _ _ (expression-number cond.0 cond.1 names here near (earlier sound _ _ p))
         (joined test _ _ (expression-number one.0 one.1 names here near (earlier sound _ _ (later sound (seen_in_expression cond.0 names needs.Number) _ p)))
         (expression-number other.0 other.1 names here near (later sound (seen_in_expression one.0 names needs.Number) _ (later sound (seen_in_expression cond.0 names needs.Number) _ p)))))),
-    λ at view. viewed-no _ names at view _ _ (sees.sees-Choose cond.0 one.0 other.0 names (needs.View view at)),
+    λ at view. viewed-no sound clean _ names at view _ _ (sees.sees-Choose cond.0 one.0 other.0 names (needs.View view at)),
   ))
   on_kind (node.Call call) = subst KindStands (sym (kind.rolls-Call call.0)) (λ names here near. (
     number-by _ names here _ _ _ (said.tied-Call call.0 here) (sees.sees-Call call.0 names needs.Number) (looks.kind-Call source _) (λ p. one-conversion None _ (call.1 names here true near p)),
-    λ at view p. absurd (call-no-view call.0 names at view (subst (λ (l : List Seen). Each sound l) (sees.sees-Call call.0 names (needs.View view at)) p)),
+    λ at view p. absurd (call-no-view sound clean call.0 names at view (subst (λ (l : List Seen). Each sound l) (sees.sees-Call call.0 names (needs.View view at)) p)),
   ))
 
   on_place : (y : node.Place-F SA SK SP SC SE) → PlaceStands (roll-Place (map-Place SA SK SP SC SE Arg ExprKind Place Call Expr (λ q. q.0) (λ q. q.0) (λ q. q.0) (λ q. q.0) (λ q. q.0) y))
@@ -259,23 +237,23 @@ module _ (source : Typed) (items : List Item) (Shaped : Kind → Object → Type
   on_place (node.Plain name) = subst PlaceStands (sym (places.rolls-Plain name)) (λ names here near. (
     λ purpose. place-by _ names here purpose _ _ _ (said.place-Plain name here _) (sees.place-Plain name names _ _) (looks.place-Plain source _ _)
         (λ p. one-place name with_marks.None purpose names here near _ [] p (none test)),
-    no-address _ name _ names _ (sees.place-Plain name names true needs.Number),
+    no-address sound clean _ name _ names _ (sees.place-Plain name names true needs.Number),
   ))
   on_place (node.Index name mark_at index) = subst PlaceStands (sym (places.rolls-Index name mark_at index.0)) (λ names here near. (
     λ purpose. place-by _ names here purpose _ _ _ (said.place-Index name mark_at index.0 here _) (sees.place-Index name mark_at index.0 names _ _) (looks.place-Index source _ _ _ _ _)
         (λ p. one-place name (with_marks.Once mark_at) purpose names here near _ _ p (one-mark mark_at _ _ _ (expression-number index.0 index.1 names here near (tail sound _ _ p)))),
-    no-address _ name _ names _ (sees.place-Index name mark_at index.0 names true needs.Number),
+    no-address sound clean _ name _ names _ (sees.place-Index name mark_at index.0 names true needs.Number),
   ))
   on_place (node.Index2 name first_at first second_at second) = subst PlaceStands (sym (places.rolls-Index2 name first_at first.0 second_at second.0)) (λ names here near. (
     λ purpose. place-by _ names here purpose _ _ _ (said.place-Index2 name first_at first.0 second_at second.0 here _) (sees.place-Index2 name first_at first.0 second_at second.0 names _ _) (looks.place-Index2 source _ _ _ _ _ _ _ _)
         (λ p. one-place name (with_marks.Twice first_at) purpose names here near _ _ p (one-mark first_at _ _ _ (joined test _ _ (expression-number first.0 first.1 names here near (earlier sound _ _ (tail sound _ _ p)))
         (one-mark second_at _ _ _ (expression-number second.0 second.1 names here near (later sound (seen_in_expression first.0 names needs.Number) _ (tail sound _ _ p))))))),
-    no-address _ name _ names _ (sees.place-Index2 name first_at first.0 second_at second.0 names true needs.Number),
+    no-address sound clean _ name _ names _ (sees.place-Index2 name first_at first.0 second_at second.0 names true needs.Number),
   ))
   on_place (node.Deref star_at name) = subst PlaceStands (sym (places.rolls-Deref star_at name)) (λ names here near. (
     λ purpose. place-by _ names here purpose _ _ _ (said.place-Deref star_at name here _) (sees.place-Deref star_at name names _ _) (looks.place-Deref source _ _ _ _)
         (λ p. one-place name (with_marks.Star star_at) purpose names here near _ _ p (one-mark star_at _ _ [] (none test))),
-    no-address _ name _ names _ (sees.place-Deref star_at name names true needs.Number),
+    no-address sound clean _ name _ names _ (sees.place-Deref star_at name names true needs.Number),
   ))
 
   on_argument : (y : node.Arg-F SA SK SP SC SE) → ArgumentStands (roll-Arg (map-Arg SA SK SP SC SE Arg ExprKind Place Call Expr (λ q. q.0) (λ q. q.0) (λ q. q.0) (λ q. q.0) (λ q. q.0) y))

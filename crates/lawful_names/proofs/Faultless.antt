@@ -1,32 +1,22 @@
 -- A source without a fault: nothing that is seen in it has one, so what stands in it passes each test that fits.
-use Rattle.std.proofs.Common.{◌≡◌, List, [], ◌∷◌, ◌++◌, Bool, true, subst}
-use Rattle.std.specs.Prelude.{flat_map, MatchOption, Option, None}
+use Rattle.std.proofs.Common.{◌≡◌, [], Bool, true}
+use Rattle.std.specs.Prelude.{flat_map, None}
 use Rattle.std.specs.List.{list_all}
-use Rattle.sat_base.specs.declared.fault.Fault.{Fault}
 use Rattle.c_tree.specs.declared.program.Program.{Program}
 use Rattle.c_typed.specs.declared.typed.Typed.{Typed}
 use Rattle.operator_meaning.specs.declared.object.Object.{Object}
 use Rattle.c_seen.specs.declared.seen.Kind.{Kind}
 use Rattle.c_seen.specs.Sources.{seen_of}
 use Rattle.c_faults.specs.Faults.{faults_at, faults_of, limits}
-use Rattle.c_faults.specs.Laws.{IsLeast}
 use Rattle.c_faults.specs.Told.{kept, first_of}
-use Rattle.c_faults.proofs.Least.{first-least}
 use Rattle.c_types.specs.Tied.{IsTyped}
 use Rattle.lawful_sources.specs.Things.{Thing}
 use Rattle.lawful_sources.specs.Lawful.{Everywhere}
-use Rattle.lawful_laws.proofs.Sound.{seen-sound}
+use Rattle.lawful_laws.proofs.Sound.{none-right, no-fault, seen-sound}
 use Rattle.lawful_names.proofs.Clean.{is_clean, when-clean, clean-where}
 use Rattle.lawful_names.proofs.Declarations.{Shapes}
 use Rattle.lawful_names.proofs.Fitting.{Fits}
 use Rattle.lawful_names.proofs.Sources.{stands-everywhere}
-
-none-right : {A : Type 0} (xs ys : List A) → xs ++ ys ≡ [] → ys ≡ []
-none-right [] ys p = p
-none-right (x ∷ xs) ys p = cc
-
-no-fault : (faults : List Fault) → first_of faults ≡ None → faults ≡ []
-no-fault faults is = subst (λ (o : Option Fault). MatchOption o (faults ≡ []) (IsLeast faults)) is (first-least faults)
 
 pub seen-clean : (program : Program) → first_of (faults_of program) ≡ None → list_all is_clean (seen_of program) ≡ true
 seen-clean program is = seen-sound is_clean clean-where program is
@@ -38,7 +28,7 @@ no-limit program is = none-right (flat_map faults_at (seen_of program)) (kept (l
 abbrev pub AnyShape : Kind → Object → Type 0
 AnyShape kind object = Unit {0}
 
-any-shapes : Shapes AnyShape is_clean
+pub any-shapes : Shapes AnyShape is_clean
 any-shapes = record { declared = λ decl is_local function exposed p. tt; parameters = λ param function exposed. tt }
 
 pub stands : (program : Program) (source : Typed) → IsTyped program source → (test : Thing → Bool) → Fits source program.items AnyShape is_clean test → Everywhere source test

@@ -69,9 +69,12 @@ place_seen at marks purpose meaning = record { at = at; marks = marks; ampersand
 
 -- ---- what is taken, on both sides
 
+abbrev pub view_of : Width → Bool → SeenView
+view_of width is_const = record { width = width; is_const = is_const }
+
 abbrev pub wanted_for : Taken → Wanted
 wanted_for (Number width) = wants.Number
-wanted_for (View width is_const) = wants.View (record { width = width; is_const = is_const })
+wanted_for (View width is_const) = wants.View (view_of width is_const)
 
 abbrev pub asked_for : Taken → Asked
 asked_for (Number width) = asks.Number width

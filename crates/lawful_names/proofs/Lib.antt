@@ -3,6 +3,7 @@ pub mod Agreement
 pub mod Clean
 pub mod Fitting
 pub mod Calls
+pub mod NoViews
 pub mod Expressions
 pub mod Within
 pub mod Declarations

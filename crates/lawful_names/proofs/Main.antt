@@ -1,9 +1,8 @@
 -- A source without a fault has a definition of main, which is a function of the source.
 use Rattle.std.proofs.Common.{◌≡◌, ℕ, zero, suc, ◌+◌, List, [], ◌∷◌, Bool, true, false, map, length, refl, sym, ap, ◌∙◌, subst}
-use Rattle.std.specs.Prelude.{Option, Some, None, is_some, not, ◌&&◌, ◌||◌, ◌==◌, slice_get, codes}
+use Rattle.std.specs.Prelude.{Option, Some, None, is_some, ◌&&◌, ◌||◌, ◌==◌, slice_get, codes}
 use Rattle.std.specs.List.{list_any}
 use Rattle.std.specs.Str.{bytes_eq}
-use Rattle.sat_base.specs.declared.name.At.{At}
 use Rattle.sat_base.specs.declared.width.Width.{Width}
 use Rattle.sat_base.specs.declared.width.Width.TheVariants.{W16, W32}
 use Rattle.c_scopes.specs.Scopes.{Known}
@@ -20,7 +19,6 @@ use Rattle.c_seen.specs.Functions.{function_at, functions_of, functions_from, is
 use Rattle.c_seen.specs.Meanings.{Names}
 use Rattle.c_seen.specs.Sources as seen_sources
 use Rattle.c_seen.specs.Sources.{functions_after, seen_in_items, seen_of, end_of, is_empty}
-use Rattle.c_faults.specs.Rows.{at_if}
 use Rattle.c_types.specs.Sources.{Source, number_of, after_function, after_item}
 use Rattle.c_types.specs.Tied.{IsTyped}
 use Rattle.lawful_sources.specs.Objects.{is_complete}
@@ -29,7 +27,7 @@ use Rattle.lawful_sources.proofs.Passing.{Each}
 use Rattle.lawful_laws.proofs.Functions.{both, left, right}
 use Rattle.lawful_laws.proofs.Statements.{later, head}
 use Rattle.lawful_names.proofs.Agreement.{sort_of, sorts, AreParameters, IsFunction}
-use Rattle.lawful_names.proofs.Clean.{Clean, never, is_clean, when-clean}
+use Rattle.lawful_names.proofs.Clean.{Clean, true-by, is_clean, when-clean}
 use Rattle.lawful_names.proofs.Faultless.{seen-clean}
 use Rattle.lawful_names.proofs.Keeping.{passed, found}
 use Rattle.lawful_names.proofs.Reached.{Reached, Steps, steps, function-own, next-reached, at-end}
@@ -136,13 +134,9 @@ module _ (source : Typed) (items : List Item) (sound : Seen → Bool) (clean : (
   main-stands s names before item (items_of.ExternFlag at ∷ rest) r p =
       main-stands s names before (item + 1) rest (next-reached source items sound clean s names before item (items_of.ExternFlag at) rest r) p
 
-has-by : (has : Bool) (at : At) → at_if (not has) at ≡ None → has ≡ true
-has-by true at p = refl
-has-by false at p = absurd (never at p)
-
 pub has-main : (program : Program) (source : Typed) → IsTyped program source → list_any is_good_main source.functions ≡ true
 has-main program source is =
     let all : Each is_clean (seen_of program) = record { all = seen-clean program is.faultless } in
     let end : Each is_clean (end_of program ∷ []) = later is_clean (seen_in_items (names_at_start program) [] 0 program.items) (end_of program ∷ []) all in
     let tells : Clean (end_of program) = when-clean _ (head is_clean _ _ end) in
-    main-stands source program.items is_clean when-clean (start_of program source) (names_at_start program) [] 0 program.items (reached program source is_clean when-clean is.tied (seen-clean program is.faultless)) (has-by _ _ tells.main)
+    main-stands source program.items is_clean when-clean (start_of program source) (names_at_start program) [] 0 program.items (reached program source is_clean when-clean is.tied (seen-clean program is.faultless)) (true-by _ _ tells.main)

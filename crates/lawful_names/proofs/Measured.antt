@@ -1,7 +1,6 @@
 -- The objects that a statement declares, measured by what is seen of it: inductions over statements.
 use Rattle.std.proofs.Common.{◌≡◌, ℕ, suc, ◌+◌, ◌≤◌, List, [], ◌∷◌, ◌++◌, Bool, true, false, map, length, sym, subst, arith}
 use Rattle.std.specs.Prelude.{nat_lt, Option, Some, None}
-use Rattle.std.proofs.lemmas.Bool.Decides.{nat_tests}
 use Rattle.sat_base.specs.declared.width.Width.{Width}
 use Rattle.c_tree.specs.declared.declaration.Decl.{Decl}
 use Rattle.c_tree.specs.declared.declaration.Objects.{Objects}
@@ -28,11 +27,9 @@ use Rattle.tied_statements.specs.Declarations.{with_objects, after_declared, sta
 use Rattle.tied_statements.specs.Statements.{Done, tied_statement, tied_block, tied_statements}
 use Rattle.tied_statements.proofs.Statement_equations as ties
 use Rattle.lawful_sources.proofs.Passing.{Each}
+use Rattle.lawful_laws.proofs.Objects.{deeper}
 use Rattle.lawful_laws.proofs.Statements.{earlier, later, tail, head}
 use Rattle.lawful_names.proofs.Totals.{total, total-append}
-
-deeper : (depth : ℕ) → nat_lt 0 (suc depth) ≡ true
-deeper depth = grind (arith, nat_tests)
 
 module _ (sound : Seen → Bool) (measure : Object → ℕ) (cost : Seen → ℕ) where
   -- a declaration costs at least what its object measures

@@ -31,7 +31,7 @@ use Rattle.lawful_sources.proofs.Passing.{Each, none, next, joined}
 abbrev pub is_inner : Seen → Bool
 is_inner s = not (is_function s)
 
-abbrev Inner : List Seen → Type 0
+abbrev pub Inner : List Seen → Type 0
 Inner list = Each is_inner list
 
 abbrev KindInner : ExprKind → Type 0
@@ -49,7 +49,7 @@ CallInner x = (names : Names) (need : Need) → Inner (seen_in_call x names need
 abbrev ArgumentInner : Arg → Type 0
 ArgumentInner x = (names : Names) (wanted : Wanted) → Inner (seen_in_argument x names wanted)
 
-same : (list other : List Seen) → list ≡ other → Inner other → Inner list
+pub same : (list other : List Seen) → list ≡ other → Inner other → Inner list
 same list other is p = subst (λ (l : List Seen). Inner l) (sym is) p
 
 expression : (x : Expr) → ExpressionInner x → (names : Names) (need : Need) → Inner (seen_in_expression x names need)

@@ -24,10 +24,7 @@ use Rattle.c_seen.specs.Sources.{body_spot, seen_in_body}
 use Rattle.c_seen.specs.Statements.{seen_in_simple, simples, seen_in_statement, seen_in_block, seen_in_statements}
 use Rattle.c_seen.proofs.Statements_seen as sees
 use Rattle.lawful_sources.proofs.Passing.{Each, none, next, joined}
-use Rattle.lawful_names.proofs.NoFunctions.{is_inner, place-inner, call-inner, argument-inner, number-inner, number-if-any, dimension-inner}
-
-abbrev Inner : List Seen → Type 0
-Inner list = Each is_inner list
+use Rattle.lawful_names.proofs.NoFunctions.{is_inner, Inner, same, place-inner, call-inner, argument-inner, number-inner, number-if-any, dimension-inner}
 
 simple-inner : (names : Names) (x : Simple) → Inner (seen_in_simple names x)
 simple-inner names (simple.Assign at place mark mark_at value) = joined is_inner _ _ (place-inner place names _ needs.Target) (number-inner names value)
@@ -78,9 +75,6 @@ SS = (x : Stmt) × StatementInner x
 
 abbrev SB : Type 0
 SB = (x : Block) × BlockInner x
-
-same : (list other : List Seen) → list ≡ other → Inner other → Inner list
-same list other is p = subst (λ (l : List Seen). Inner l) (sym is) p
 
 one-more : (s : Seen) (list : List Seen) → is_inner s ≡ true → Inner list → Inner (s ∷ list)
 one-more s list p q = next is_inner s list p q

@@ -53,7 +53,7 @@ or-incomplete : (o : Option ℕ) (functions : List TypedFunction) (g : Function)
 or-incomplete None functions g n = declared-incomplete functions g n
 or-incomplete (Some number) functions g n = refl
 
-first-definition : (body defined : Bool) (at : At) → body ≡ true → at_if (body && defined) at ≡ None → defined ≡ false
+pub first-definition : (body defined : Bool) (at : At) → body ≡ true → at_if (body && defined) at ≡ None → defined ≡ false
 first-definition true true at p q = absurd (never at q)
 first-definition true false at p q = refl
 first-definition false defined at p q = cc

@@ -1,6 +1,6 @@
 -- What stands in a source without a fault passes each test that fits: item by item.
 use Rattle.std.proofs.Common.{◌≡◌, ℕ, zero, suc, ◌+◌, List, [], ◌∷◌, Bool, true, false, map, length, refl, ap, ◌∙◌, subst, arith}
-use Rattle.std.specs.Prelude.{flat_map, Option, Some, None, is_some, if◌then◌else◌, nat_lt, slice_get, slice_set}
+use Rattle.std.specs.Prelude.{Option, Some, None, is_some, if◌then◌else◌, nat_lt, slice_get, slice_set}
 use Rattle.std.specs.List.{list_all}
 use Rattle.std.specs.Str.{bytes_eq}
 use Rattle.std.proofs.lemmas.List.Folds.{list_all-append}
@@ -39,7 +39,7 @@ use Rattle.lawful_sources.specs.Things.{Thing}
 use Rattle.lawful_sources.specs.Statements.{in_function}
 use Rattle.lawful_sources.specs.Lawful.{Everywhere}
 use Rattle.lawful_sources.proofs.Passing.{Each}
-use Rattle.lawful_laws.proofs.Functions.{both, left, right}
+use Rattle.lawful_laws.proofs.Functions.{both, left, right, all-flat}
 use Rattle.lawful_laws.proofs.Statements.{earlier, later, tail}
 use Rattle.lawful_names.proofs.Agreement.{IsFunction, Near, is_pointing, newest-agrees, predefined-agrees}
 use Rattle.lawful_names.proofs.Clean.{Clean}
@@ -74,7 +74,7 @@ pointing-parameter false = refl
 module _ (source : Typed) (items : List Item) (Shaped : Kind → Object → Type 0) (sound : Seen → Bool) (clean : (s : Seen) → sound s ≡ true → Clean s) (shapes : Shapes Shaped sound) where
   -- ---- names
 
-  file-near : (names : Names) (here : Here) (decls : List Decl) → Near source items Shaped names here → Within (after_objects here decls).objects source.objects → Each sound (seen_in_objects names 0 decls)
+  pub file-near : (names : Names) (here : Here) (decls : List Decl) → Near source items Shaped names here → Within (after_objects here decls).objects source.objects → Each sound (seen_in_objects names 0 decls)
       → Near source items Shaped (scope.after_objects names 0 decls) (after_objects here decls)
   file-near names here [] near within p = near
   file-near names here (decl ∷ decls) near within p =
@@ -106,14 +106,14 @@ module _ (source : Typed) (items : List Item) (Shaped : Kind → Object → Type
             (near.agree name);
       }
 
-  parameters-near : (names : Names) (here : Here) (number : ℕ) (params : List Param) → Near source items Shaped names here → Within (parameters_of here number params).after.objects source.objects
+  pub parameters-near : (names : Names) (here : Here) (number : ℕ) (params : List Param) → Near source items Shaped names here → Within (parameters_of here number params).after.objects source.objects
       → Near source items Shaped (after_parameters names params) (parameters_of here number params).after
   parameters-near names here number [] near within = near
   parameters-near names here number (param ∷ params) near within =
       parameters-near (scope.after_parameter names param) (after_parameter here number param) number params
       (named-near names here number param param.name near (within-more _ _ _ (parameters-grow (after_parameter here number param) number params) within)) within
 
-  function-near : (names : Names) (here : Here) (item number : ℕ) (g : Function) → Near source items Shaped names here → IsFunction source items g.name.name item number
+  pub function-near : (names : Names) (here : Here) (item number : ℕ) (g : Function) → Near source items Shaped names here → IsFunction source items g.name.name item number
       → Near source items Shaped (seen_sources.after_function names item g) (record here { known = (g.name.name, record { depth = 0; what = ties.Function number item }) ∷ here.known })
   function-near names here item number g near f = record {
     seen_items = near.seen_items;
@@ -125,7 +125,7 @@ module _ (source : Typed) (items : List Item) (Shaped : Kind → Object → Type
         (near.agree name);
   }
 
-  body-near : (names : Names) (s : Source) (number : ℕ) (g : Function) (body : Option Block) → Near source items Shaped names s.here → Near source items Shaped names (after_body s number g body).here
+  pub body-near : (names : Names) (s : Source) (number : ℕ) (g : Function) (body : Option Block) → Near source items Shaped names s.here → Near source items Shaped names (after_body s number g body).here
   body-near names s number g None near = near
   body-near names s number g (Some body) near = still-near source items Shaped names s.here _ near
 
@@ -169,11 +169,6 @@ module _ (source : Typed) (items : List Item) (Shaped : Kind → Object → Type
     items-stand s names before item (items_of.ExternFlag at ∷ rest) r near q =
         items-stand s names before (item + 1) rest (next-reached source items sound clean s names before item (items_of.ExternFlag at) rest r) near q
 
-    everywhere : (functions : List TypedFunction) → list_all holds functions ≡ true → list_all test (flat_map (in_function source) functions) ≡ true
-    everywhere [] p = refl
-    everywhere (f ∷ functions) p =
-        list_all-append test (in_function source f) (flat_map (in_function source) functions) ∙ both _ _ (left (holds f) (list_all holds functions) p) (everywhere functions (right (holds f) (list_all holds functions) p))
-
 -- ---- the whole source
 
 abbrev pub start_of : Program → Typed → Source
@@ -181,6 +176,9 @@ start_of program source = opening program.items (map token_of source.sites) (exp
 
 abbrev pub names_at_start : Program → Names
 names_at_start program = record { items = program.items; functions = functions_of program.items; known = [] }
+
+pub start-near : (program : Program) (source : Typed) (Shaped : Kind → Object → Type 0) → Near source program.items Shaped (names_at_start program) (start_of program source).here
+start-near program source Shaped = record { seen_items = refl; seen_functions = refl; tied_items = refl; agree = λ name. predefined-agrees source program.items Shaped name (callee_of name) (call-is-predefined name) }
 
 pub reached : (program : Program) (source : Typed) (sound : Seen → Bool) (clean : (s : Seen) → sound s ≡ true → Clean s) → IsTied program source → list_all sound (seen_of program) ≡ true
     → Reached source program.items sound clean (start_of program source) (names_at_start program) [] 0 program.items
@@ -197,8 +195,6 @@ reached program source sound clean tied all = record {
 pub stands-everywhere : (program : Program) (source : Typed) (Shaped : Kind → Object → Type 0) (sound : Seen → Bool) (clean : (s : Seen) → sound s ≡ true → Clean s) → Shapes Shaped sound → IsTied program source
     → list_all sound (seen_of program) ≡ true → (test : Thing → Bool) → Fits source program.items Shaped sound test → Everywhere source test
 stands-everywhere program source Shaped sound clean shapes tied all test fits =
-    let near : Near source program.items Shaped (names_at_start program) (start_of program source).here =
-    record { seen_items = refl; seen_functions = refl; tied_items = refl; agree = λ name. predefined-agrees source program.items Shaped name (callee_of name) (call-is-predefined name) } in
-    everywhere source program.items Shaped sound clean shapes test fits source.functions
+    all-flat (in_function source) test source.functions
     (ap (list_all (holds source program.items Shaped sound clean shapes test fits)) tied.functions
-    ∙ items-stand source program.items Shaped sound clean shapes test fits (start_of program source) (names_at_start program) [] 0 program.items (reached program source sound clean tied all) near refl)
+    ∙ items-stand source program.items Shaped sound clean shapes test fits (start_of program source) (names_at_start program) [] 0 program.items (reached program source sound clean tied all) (start-near program source Shaped) refl)

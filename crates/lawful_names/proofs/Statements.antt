@@ -37,18 +37,19 @@ use Rattle.lawful_names.proofs.Fitting.{Fits}
 use Rattle.lawful_names.proofs.Simples.{simple-stands, simples-stand, value-if-any, returned-stands}
 use Rattle.lawful_names.proofs.Within.{Within, within-more, statement-grows, statements-grow}
 
+-- where a statement stands, as what is seen has it and as what stands has it
+abbrev pub seen_spot : ℕ → Bool → Inside → SeenSpot
+seen_spot depth in_loop inside = record { depth = depth; in_loop = in_loop; gives = is_some inside.gives }
+
+abbrev pub spot : Bool → Inside → Spot
+spot in_loop inside = record { in_loop = in_loop; gives = inside.gives }
+
 -- the names stay what they are where more objects are declared
 pub still-near : (source : Typed) (items : List Item) (Shaped : Kind → Object → Type 0) (names : Names) (here : Here) (objects : List Object) → Near source items Shaped names here → Near source items Shaped names (with_objects here objects)
 still-near source items Shaped names here objects near = record { seen_items = near.seen_items; seen_functions = near.seen_functions; tied_items = near.tied_items; agree = near.agree }
 
 module _ (source : Typed) (items : List Item) (Shaped : Kind → Object → Type 0) (sound : Seen → Bool) (clean : (s : Seen) → sound s ≡ true → Clean s) (shapes : Shapes Shaped sound)
     (test : Thing → Bool) (fits : Fits source items Shaped sound test) where
-  abbrev seen_spot : ℕ → Bool → Inside → SeenSpot
-  seen_spot depth in_loop inside = record { depth = depth; in_loop = in_loop; gives = is_some inside.gives }
-
-  abbrev spot : Bool → Inside → Spot
-  spot in_loop inside = record { in_loop = in_loop; gives = inside.gives }
-
   abbrev StatementStands : Stmt → Type 0
   StatementStands x = (names : Names) (here : Here) (inside : Inside) (depth : ℕ) (in_loop : Bool) → Near source items Shaped names here → Within (tied_statement x here inside).objects source.objects
       → Each sound (seen_in_statement x names (seen_spot depth in_loop inside)) → Each test (in_statement source (tied_statement x here inside).value (spot in_loop inside))

@@ -42,15 +42,15 @@ pub joined : {A : Type 0} (test : A → Bool) (xs ys : List A) → Each test xs 
 joined test xs ys p q = record { all = list_all-append test xs ys ∙ rw (p.all, q.all) refl }
 
 module _ (source : Typed) where
-  roll_argument : (z : node.TypedArg-F TypedArg TypedExprKind TypedPlace TypedCall TypedExpr) → argument_look source (roll-TypedArg z)
+  pub roll_argument : (z : node.TypedArg-F TypedArg TypedExprKind TypedPlace TypedCall TypedExpr) → argument_look source (roll-TypedArg z)
       ≡ of_argument source (map-TypedArg TypedArg TypedExprKind TypedPlace TypedCall TypedExpr Argued Look Placed Calling Look (argument_look source) (kind_look source) (in_place source) (in_call source) (expression_look source) z)
   roll_argument = fold-roll-TypedArg _ _ _ _ _ (of_argument source) (of_kind source) (of_place source) (of_call source) (of_expression source)
 
-  roll_kind : (z : node.TypedExprKind-F TypedArg TypedExprKind TypedPlace TypedCall TypedExpr) → kind_look source (roll-TypedExprKind z)
+  pub roll_kind : (z : node.TypedExprKind-F TypedArg TypedExprKind TypedPlace TypedCall TypedExpr) → kind_look source (roll-TypedExprKind z)
       ≡ of_kind source (map-TypedExprKind TypedArg TypedExprKind TypedPlace TypedCall TypedExpr Argued Look Placed Calling Look (argument_look source) (kind_look source) (in_place source) (in_call source) (expression_look source) z)
   roll_kind = fold-roll-TypedExprKind _ _ _ _ _ (of_argument source) (of_kind source) (of_place source) (of_call source) (of_expression source)
 
-  roll_place : (z : node.TypedPlace-F TypedArg TypedExprKind TypedPlace TypedCall TypedExpr) → in_place source (roll-TypedPlace z)
+  pub roll_place : (z : node.TypedPlace-F TypedArg TypedExprKind TypedPlace TypedCall TypedExpr) → in_place source (roll-TypedPlace z)
       ≡ of_place source (map-TypedPlace TypedArg TypedExprKind TypedPlace TypedCall TypedExpr Argued Look Placed Calling Look (argument_look source) (kind_look source) (in_place source) (in_call source) (expression_look source) z)
   roll_place = fold-roll-TypedPlace _ _ _ _ _ (of_argument source) (of_kind source) (of_place source) (of_call source) (of_expression source)
 

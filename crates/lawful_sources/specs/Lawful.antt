@@ -1,5 +1,5 @@
 -- Lawful sources. Each line is one condition, read of the numbers of a source alone.
-use Rattle.std.specs.Prelude.{◌≡◌, ℕ, ◌*◌, ◌≤◌, ◌==◌, nat_le, Bool, true, false, ◌&&◌, ◌||◌, if◌then◌else◌, ℤ, List, [], ◌∷◌, ◌++◌, flat_map, length, map, slice_get, Option, Some, None, is_some, is_none}
+use Rattle.std.specs.Prelude.{◌≡◌, ℕ, ◌*◌, ◌≤◌, ◌==◌, nat_le, nat_lt, Bool, true, false, ◌&&◌, ◌||◌, if◌then◌else◌, ℤ, List, [], ◌∷◌, ◌++◌, flat_map, length, map, slice_get, Option, Some, None, is_some, is_none}
 use Rattle.std.specs.List.{All, list_all, list_any, filter, sum_by}
 use Rattle.std.specs.List.Sorted.{IsPermutation, IsStrictlyIncreasing}
 use Rattle.std.specs.Ordering.{int_eq}
@@ -14,7 +14,7 @@ use Rattle.c_typed.specs.declared.typed.Typed.{Typed}
 use Rattle.c_typed.specs.declared.typed.TypedFunction.{TypedFunction}
 use Rattle.lawful_sources.specs.Things.{Thing, Constant, Statement}
 use Rattle.lawful_sources.specs.Statements.{in_function, in_source}
-use Rattle.lawful_sources.specs.Objects.{is_scalar, element_count, has_shape, has_function, is_no_static_view, initial_fits, begins_well, exposed_from, own_from, begun_in, has_parameters, is_number}
+use Rattle.lawful_sources.specs.Objects.{is_scalar, element_count, has_shape, has_function, is_no_static_view, initial_fits, begins_well, exposed_from, own_from, follow_one_another, begun_in, has_parameters, is_number}
 use Rattle.lawful_sources.specs.Returns.{ending_of}
 use Rattle.lawful_sources.specs.Rows.{object_exists, function_exists, place_fits, const_is_kept, width_agrees, arguments_are_counted, argument_fits, value_is_given, callee_is_defined, is_main, main_is_not_called, mark_is_numbered, IsOfKind, sites_standing, conversion_stands, is_in_loop, return_fits}
 
@@ -89,6 +89,22 @@ standing_constant thing = []
 abbrev pub constants_standing : List Thing → List ℤ
 constants_standing things = flat_map standing_constant things
 
+-- where the name in a definition stands
+abbrev pub token_in : Option At → ℕ
+token_in None = 0
+token_in (Some at) = at.tok
+
+-- a definition among others, in the order of the text
+abbrev pub with_definition : TypedFunction → List TypedFunction → List TypedFunction
+with_definition function [] = function ∷ []
+with_definition function (other ∷ rest) =
+    if nat_lt (token_in other.defined) (token_in function.defined) then other ∷ with_definition function rest else function ∷ other ∷ rest
+
+-- the functions that have a body, in the order of their definitions in the text
+abbrev pub definitions_in : List TypedFunction → List TypedFunction
+definitions_in [] = []
+definitions_in (function ∷ rest) = if is_some function.body then with_definition function (definitions_in rest) else definitions_in rest
+
 -- each value once, where it first stands; these stand before
 abbrev pub distinct_after : List ℤ → List ℤ → List ℤ
 distinct_after before [] = []
@@ -118,6 +134,8 @@ pub record IsLawful (source : Typed) : Type 0 where
   pub objects_have_functions : list_all (λ object. has_function source object object.function) source.objects ≡ true
   pub parameters_are_objects : list_all (has_parameters source) source.functions ≡ true
   pub objects_are_declared : (number : ℕ) (function : TypedFunction) → slice_get source.functions number ≡ Some function → DeclaresItsOwn source number function
+  -- no other object stands between those of a function
+  pub objects_follow : (function : ℕ) → follow_one_another (own_from function 0 source.objects) ≡ true
   pub views_are_not_static : list_all is_no_static_view source.objects ≡ true
   pub initial_values_fit : list_all (λ object. initial_fits object object.initial) source.objects ≡ true
   pub objects_begin : Everywhere source (begins_well source)
@@ -141,5 +159,5 @@ pub record IsLawful (source : Typed) : Type 0 where
   pub marks_are_numbered : Everywhere source (mark_is_numbered source)
   pub sites_stand_once : IsPermutation (sites_standing (in_source source)) (map at_of source.sites)
   pub kinds_agree : All (IsOfKind source) (in_source source)
-  pub constants_stand : source.constants ≡ distinct_after [] (constants_standing (in_source source))
+  pub constants_stand : source.constants ≡ distinct_after [] (constants_standing (flat_map (in_function source) (definitions_in source.functions)))
   pub weights_are_known : source.weights ≡ 1

@@ -126,6 +126,16 @@ own_from function number [] = []
 own_from function number (object ∷ objects) =
     if is_number function object.function then number ∷ own_from function (number + 1) objects else own_from function (number + 1) objects
 
+-- this number, the next one, and so on
+abbrev pub follow_from : ℕ → List ℕ → Bool
+follow_from number [] = true
+follow_from number (next ∷ rest) = next == number && follow_from (number + 1) rest
+
+-- each number is one more than the one before it
+abbrev pub follow_one_another : List ℕ → Bool
+follow_one_another [] = true
+follow_one_another (first ∷ rest) = follow_from (first + 1) rest
+
 abbrev pub begun : Thing → List ℕ
 begun (Begins object value) = object ∷ []
 begun thing = []

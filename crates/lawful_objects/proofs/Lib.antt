@@ -1,0 +1,13 @@
+pub mod Adding
+pub mod Beginning
+pub mod Declaring
+pub mod Exposing
+pub mod ExposingExpressions
+pub mod ExposingSimples
+pub mod Walks
+pub mod ExposingStatements
+pub mod ExposingItems
+pub mod Exposed
+pub mod Folded
+pub mod Counts
+pub mod Initial

@@ -1,0 +1,11 @@
+pub mod Sited
+pub mod Twins
+pub mod Marks
+pub mod Expressions
+pub mod Simples
+pub mod Declarations
+pub mod Statements
+pub mod Functions
+pub mod Items
+pub mod Numbered
+pub mod SiteKinds

@@ -1,0 +1,16 @@
+pub mod Walk
+pub mod Noted
+pub mod Sites
+pub mod Lengths
+pub mod Allowed
+pub mod Spelling
+pub mod Alike
+pub mod Same
+pub mod Claims
+pub mod Numbers
+pub mod Beginnings
+pub mod Standing
+pub mod Distinct
+pub mod Order
+pub mod Rising
+pub mod Texts

@@ -1,0 +1,6 @@
+// What the grammar gives of what is lawful: laws alone, one for each line of it that follows from the spelling.
+#![tactic(auto)]
+
+mod laws;
+
+pub use laws::{constants_stand, sites_have_own_tokens, texts_are_spelled};

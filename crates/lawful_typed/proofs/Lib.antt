@@ -1,0 +1,4 @@
+pub mod Numbers
+pub mod Integers
+pub mod Few
+pub mod Lawful
