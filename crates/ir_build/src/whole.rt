@@ -1,11 +1,12 @@
 // The tree of a source.
 
 ghost use Rattle.std.specs.Prelude.{◌≡◌, IfOk, map};
+ghost use Rattle.call_structure.specs.Orders.{IsCallersFirst};
 ghost use Rattle.ir_arena.specs.Placed.{function_of};
 ghost use Rattle.ir_expressions.specs.Building.{AreShort};
 ghost use Rattle.ir_cuts.specs.Cuts.{cuts_from};
 ghost use Rattle.whole_trees.specs.Sources.{setting_for, function_at, numbers_defined, defined_functions, functions_along, main_in, renumbered};
-ghost use Rattle.source_agreement.specs.Agreement.{HasTree};
+ghost use Rattle.lawful_sources.specs.Lawful.{IsLawful};
 ghost use Rattle.ir_build.specs.Built.{IsTreeOf, DoesAs};
 
 use bumpalo::Bump;
@@ -73,17 +74,18 @@ fn with_functions<'a>(
     })
 }
 
-/// The tree of a source, in the arena: one node for each statement, expression and implied conversion. The order is one
-/// of the source's functions; where there is one, no function reaches itself.
+/// The tree of a lawful source, in the arena: one node for each statement, expression and implied conversion. It does
+/// what the source does. The order is one of the source's functions; where there is one, no function reaches itself.
 pub fn build<'a>(
     alloc: Global,
     bump: &'a Bump,
     typed: &Typed,
     order: &Order,
 ) -> Result<Ir<'a>, Memory>
-    requires { AreShort typed.now.objects }
+    requires lawful { IsLawful typed.now }
+    requires order { IsCallersFirst typed.now order.now.functions }
     ensures tree { IfOk result (IsTreeOf typed.now) }
-    ensures runs { IfOk result (λ ir. HasTree typed.now → DoesAs typed.now ir) }
+    ensures runs { IfOk result (DoesAs typed.now) }
 {
     let definitions = definitions(alloc, typed)?;
     let functions = tree_functions(alloc, bump, typed, &definitions)?;

@@ -1,9 +1,13 @@
 use Rattle.std.proofs.lemmas.Result.{IfOk-weaker}
-use Rattle.source_agreement.specs.Agreement.{HasTree}
+use Rattle.lawful_trees.proofs.Functions.{has-tree}
+use Rattle.lawful_trees.proofs.Short.{are-short}
 use Rattle.ir_build.specs.Built.{IsTreeOf, DoesAs}
 use Rattle.ir_build.proofs.Fields.{HasFields, is_tree, with_fields}
 use Rattle.ir_build.proofs.Runs.{trees_do}
 use Rattle.ir_build.proofs.whole.build.Goals as goal
+
+pub tree_functions-requires : goal.tree_functions-requires
+tree_functions-requires c = are-short c.args.typed.now c.requires.lawful
 
 pub returns : goal.returns
 returns c =
@@ -20,4 +24,7 @@ returns c =
     })
     (with_fields typed definitions made c.with_functions.result has.functions has.main has.objects has.sites has.cuts has.constants has.weights)
     in
-    record { tree = tree; runs = IfOk-weaker c.with_functions.result (IsTreeOf typed) (λ ir. HasTree typed → DoesAs typed ir) (trees_do typed) tree }
+    record {
+      tree = tree;
+      runs = IfOk-weaker c.with_functions.result (IsTreeOf typed) (DoesAs typed) (λ ir of. trees_do typed ir of (has-tree typed c.args.order.now.functions c.requires.lawful c.requires.order)) tree;
+    }
