@@ -9,7 +9,7 @@ use Rattle.rv_encode.specs.Runs.{pc_of}
 use Rattle.template_runs.specs.Machine.{StandHere, IsBefore}
 use Rattle.code_lines.proofs.Lines.{next_is, next_place, stands_first, stands_rest}
 use Rattle.code_runs.proofs.Steps.{leads_both, leads_least}
-use Rattle.code_jumps.specs.Jumps.{bytes_of, jump_code, Test, Equal, Unequal, Less, NotLess, passes, opposite, branch_by, Short, Middle, Long, IsThere, ComesTo, ComesBy, BranchesAreDone}
+use Rattle.code_jumps.specs.Jumps.{bytes_of, jump_code, Test, Equal, Unequal, Less, NotLess, passes, opposite, sensed, met, branch_code, branch_by, Reach, Short, Middle, Long, IsThere, ComesTo, ComesBy, BranchesAreDone}
 use Rattle.code_jumps.proofs.Jumps.{later_in, target_is, to_word, there, jumps_are_done}
 
 turned : (b : Bool) (x y : Moment) → (if b then x else y) ≡ (if not b then y else x)
@@ -115,3 +115,15 @@ pub branches_are_done : BranchesAreDone
 branches_are_done code k to Short test rs1 rs2 distance s stands before is small = short code k to test rs1 rs2 distance s _ refl stands before is small
 branches_are_done code k to Middle test rs1 rs2 distance s stands before is small = passed_over code k to true test rs1 rs2 distance s _ refl stands before is small
 branches_are_done code k to Long test rs1 rs2 distance s stands before is small = passed_over code k to false test rs1 rs2 distance s _ refl stands before is small
+
+-- ---- tests
+
+pub sensed_passes : (sense : Bool) (test : Test) (a b : ℤ) → passes (sensed sense test) a b ≡ met sense (passes test a b)
+sensed_passes true test a b = refl
+sensed_passes false test a b = opposed test a b
+
+-- a branch has the same length at any distance
+pub same_length : (reach : Reach) (test : Test) (rs1 rs2 : ℕ) (one other : ℤ) → length (branch_code reach test rs1 rs2 one) ≡ length (branch_code reach test rs1 rs2 other)
+same_length Short test rs1 rs2 one other = refl
+same_length Middle test rs1 rs2 one other = refl
+same_length Long test rs1 rs2 one other = refl

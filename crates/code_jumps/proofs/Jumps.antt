@@ -1,5 +1,5 @@
 -- Jumps, near and far.
-use Rattle.std.proofs.Common.{◌≡◌, ◌≢◌, ℕ, ◌+◌, ◌-◌, ◌*◌, ◌%◌, ◌^◌, ◌≤◌, ℤ, pos, ◌+ℤ◌, Bool, true, false, ◌==◌, if◌then◌else◌, List, [], ◌∷◌, refl, ap, ◌∙◌, arith}
+use Rattle.std.proofs.Common.{◌≡◌, ◌≢◌, ℕ, ◌+◌, ◌-◌, ◌*◌, ◌%◌, ◌^◌, ◌≤◌, ℤ, pos, ◌+ℤ◌, Bool, true, false, ◌==◌, if◌then◌else◌, List, [], ◌∷◌, length, refl, ap, ◌∙◌, arith}
 use Rattle.std.specs.Int.{w32, cast_signed, cast_unsigned}
 use Rattle.std.proofs.lemmas.Bool.Decides.{nat_tests}
 use Rattle.std.proofs.lemmas.Int.{ints}
@@ -15,7 +15,7 @@ use Rattle.code_lines.specs.Pieces.{upper_of, lower_of}
 use Rattle.code_lines.proofs.Lines.{next_is, one_set, stands_first, stands_rest}
 use Rattle.code_runs.specs.Doing.{LeadsLater}
 use Rattle.code_runs.proofs.Steps.{leads_both, leads_least}
-use Rattle.code_jumps.specs.Jumps.{bytes_of, jump_code, IsThere, ComesTo, JumpsAreDone}
+use Rattle.code_jumps.specs.Jumps.{bytes_of, jump_code, past_code, IsThere, ComesTo, JumpsAreDone}
 
 -- by so many instructions
 pub later_in : (code : List ℕ) (n : ℕ) (a b : Moment) → moment_after code n a ≡ b → LeadsLater code n a b
@@ -98,3 +98,18 @@ module _ (code : List ℕ) (k to : ℕ) (distance : ℤ) (s : MachineState) (bef
 pub jumps_are_done : JumpsAreDone
 jumps_are_done code k to true distance s stands before is small = near_jump code k to distance s before is small stands
 jumps_are_done code k to false distance s stands before is small = far_jump code k to distance s before is small stands
+
+-- a jump has the same length at each distance
+same_jump : (near : Bool) (d other : ℤ) → length (jump_code near d) ≡ length (jump_code near other)
+same_jump true d other = refl
+same_jump false d other = refl
+
+pub past_steady : (near : Bool) (d other : ℤ) → length (past_code near d) ≡ length (past_code near other)
+past_steady near d other = same_jump near (pos (length (jump_code near d)) +ℤ d) (pos (length (jump_code near other)) +ℤ other)
+
+-- a jump over words behind it
+pub passes_words : (code : List ℕ) (k to : ℕ) (near : Bool) (distance : ℤ) (s : MachineState) → StandHere code k (past_code near distance) → IsBefore k s
+    → pos to ≡ pos (k + length (past_code near distance)) +ℤ distance → to ≤ 16777216 → ComesTo code 1 to s
+passes_words code k to near distance s stands before is close =
+    let own = pos (length (jump_code near distance)) +ℤ distance in
+    jumps_are_done code k to near own s stands before (omega (arith, ints, is, same_jump near own distance)) close

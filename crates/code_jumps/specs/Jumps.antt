@@ -1,5 +1,5 @@
 -- Jumps and branches by distances in words, near and far.
-use Rattle.std.specs.Prelude.{◌≡◌, ◌≢◌, ℕ, ◌+◌, ◌≤◌, ℤ, pos, ◌+ℤ◌, ◌-ℤ◌, ◌*ℤ◌, Bool, true, false, not, int_lt, List, [], ◌∷◌, length}
+use Rattle.std.specs.Prelude.{◌≡◌, ◌≢◌, ℕ, ◌+◌, ◌≤◌, ℤ, pos, ◌+ℤ◌, ◌-ℤ◌, ◌*ℤ◌, Bool, true, false, not, if◌then◌else◌, nat_lt, int_lt, List, [], ◌∷◌, length}
 use Rattle.std.specs.Ordering.{int_eq}
 use Rattle.rv_encode.specs.declared.instruction.Instr.{Instr}
 use Rattle.rv_encode.specs.declared.instruction.Instr.TheVariants.{Auipc, Jal, Jalr, Beq, Bne, Blt, Bge}
@@ -58,6 +58,34 @@ abbrev pub branch_code : Reach → Test → (rs1 rs2 : ℕ) → (distance : ℤ)
 branch_code Short test rs1 rs2 distance = branch_by test rs1 rs2 (bytes_of distance) ∷ []
 branch_code Middle test rs1 rs2 distance = over_jump true test rs1 rs2 distance
 branch_code Long test rs1 rs2 distance = over_jump false test rs1 rs2 distance
+
+-- ---- by distances from their ends
+
+-- a jump over so many words behind it
+abbrev pub past_code : (near : Bool) → (distance : ℤ) → List Instr
+past_code near distance = jump_code near (pos (length (jump_code near distance)) +ℤ distance)
+
+-- the test, or its opposite
+abbrev pub sensed : (sense : Bool) → Test → Test
+sensed true test = test
+sensed false test = opposite test
+
+-- a test is passed, or is not, as is wanted
+abbrev pub met : (sense : Bool) → Bool → Bool
+met true b = b
+met false b = not b
+
+-- a jump by so many words from the end of this code, where the test of two registers is passed as is wanted
+abbrev pub jump_where : Reach → (sense : Bool) → Test → (rs1 rs2 : ℕ) → (distance : ℤ) → List Instr
+jump_where reach sense test rs1 rs2 distance =
+    branch_code reach (sensed sense test) rs1 rs2 (pos (length (branch_code reach (sensed sense test) rs1 rs2 distance)) +ℤ distance)
+
+-- so far reaches a branch by itself, and over a near jump; conditions have some words of their own
+abbrev pub reach_of : (words : ℕ) → Reach
+reach_of words = if nat_lt words 600 then Short else (if nat_lt words 200000 then Middle else Long)
+
+abbrev pub is_near : (words : ℕ) → Bool
+is_near words = nat_lt words 200000
 
 -- ---- what they do
 

@@ -1,5 +1,5 @@
 -- Short lines of which all emitted code is made: a number into a register, and a weight into the count.
-use Rattle.std.specs.Prelude.{◌≡◌, ◌≢◌, ℕ, ◌+◌, ◌*◌, ◌/◌, ◌%◌, ◌^◌, ◌<◌, ℤ, pos, negsuc, ◌-ℤ◌, Bool, true, false, ◌&&◌, int_le, nat_lt, List, [], ◌∷◌, ◌++◌, FitsSigned}
+use Rattle.std.specs.Prelude.{◌≡◌, ◌≢◌, ℕ, zero, suc, ◌+◌, ◌*◌, ◌/◌, ◌%◌, ◌^◌, ◌<◌, ℤ, pos, negsuc, ◌-ℤ◌, Bool, true, false, ◌&&◌, int_le, nat_lt, List, [], ◌∷◌, ◌++◌, FitsSigned}
 use Rattle.std.specs.Int.{w32, cast_unsigned}
 use Rattle.rv_encode.specs.declared.instruction.Instr.{Instr}
 use Rattle.rv_encode.specs.declared.instruction.Instr.TheVariants.{Lui, Addi, Sltiu, Add, Sltu}
@@ -45,6 +45,11 @@ count_line false weight = number_code 6 (pos weight) ++ (Add 24 24 6 ∷ Sltu 5 
 -- a weight into the count
 abbrev pub count_code : ℕ → List Instr
 count_code weight = count_line (nat_lt weight 2048) weight
+
+-- the weight by which the count lags behind is added, if there is any
+abbrev pub flush_code : ℕ → List Instr
+flush_code zero = []
+flush_code (suc weight) = count_code (suc weight)
 
 -- a register that no weight changes
 abbrev pub IsNoCount : ℕ → Type 0

@@ -15,8 +15,8 @@ use Rattle.tree_meaning.specs.Trees.{value_meaning}
 use Rattle.rv_encode.specs.declared.instruction.Instr.{Instr}
 use Rattle.rv_encode.specs.State.{MachineState, Moment, Running, register}
 use Rattle.template_runs.specs.Machine.{StandHere}
-use Rattle.code_jumps.specs.Jumps.{Unequal, passes, Reach}
-use Rattle.code_lines.specs.Pieces.{IsNoCount}
+use Rattle.code_jumps.specs.Jumps.{Unequal, passes, Reach, met, jump_where}
+use Rattle.code_lines.specs.Pieces.{flush_code, IsNoCount}
 use Rattle.code_runs.specs.Doing.{Bond, Comes, Does, DoesIn, LeadsLater, side}
 use Rattle.code_runs.proofs.Parts.{later}
 use Rattle.code_runs.proofs.Steps.{leads_still, leads_both, leads_least}
@@ -24,31 +24,22 @@ use Rattle.code_stacks.specs.Places.{Layout, IsLaidOut}
 use Rattle.code_stacks.specs.Agreement.{IsWith, With}
 use Rattle.code_stacks.specs.Operands.{operand_register, fetches}
 use Rattle.code_stacks.proofs.Operands.{first_stands, second_stands}
-use Rattle.code_stacks.proofs.Registers.{operand_work, work_apart, work_below}
 use Rattle.expression_code.specs.Code.{expression_code, weight_of}
 use Rattle.expression_code.specs.Laws.{AreScalars, Valued}
 use Rattle.expression_code.specs.Straight.{is_straight_mark, is_straight, height_of}
+use Rattle.expression_code.proofs.Choices.{no_count, no_zero}
 use Rattle.expression_code.proofs.Computing.{AreIn}
+use Rattle.expression_code.proofs.Deciding.{decided as compared_leads}
 use Rattle.expression_code.proofs.Expressions.{expression_does}
 use Rattle.expression_code.proofs.Leaves.{both_true, some_height}
 use Rattle.expression_code.proofs.Pairs.{pair_does}
 use Rattle.expression_code.proofs.Values.{marked}
-use Rattle.condition_code.specs.Code.{comparison_of, is_relation, placed_by, flush_code, jump_where, compared, value_code, relation_code, condition_code}
-use Rattle.condition_code.specs.Laws.{is_condition, height_of_condition, weight_of_condition, met, Decided, one_if_met}
-use Rattle.condition_code.proofs.Deciding.{decided as compared_leads}
+use Rattle.condition_code.specs.Code.{comparison_of, is_relation, placed_by, compared, value_code, relation_code, condition_code}
+use Rattle.condition_code.specs.Laws.{is_condition, height_of_condition, weight_of_condition, Decided, one_if_met}
 
 truth_holds : (b : Bool) → holds (truth b) ≡ b
 truth_holds true = refl
 truth_holds false = refl
-
-no_count : (depth operand : ℕ) → IsNoCount (operand_register depth operand)
-no_count depth operand =
-    let work = operand_work depth operand in (
-      work_apart (operand_register depth operand) 5 work refl,
-      work_apart (operand_register depth operand) 6 work refl,
-      work_below (operand_register depth operand) 24 work refl,
-      work_below (operand_register depth operand) 25 work refl,
-    )
 
 -- a relation by its comparison
 relation_holds : (mark : BinaryMark) (x y : ℤ) → is_relation mark ≡ true
@@ -111,12 +102,9 @@ module _ (code : List ℕ) (turns : ℕ) (l : Layout) (laid : IsLaidOut l) (here
       further (Running m) (one_if_met sense) (Valued here.objects l (k + length xs) (lag + weight_of e) values e) (Leads_on target end values sense) (value_meaning here called e s)
       (expression_does code turns l laid here called scalars e k lag values straight room (first_stands code k xs rest stands) s m at)
       (λ x t u valued.
-      let leads = compared_leads code here.objects l laid reach sense Unequal (operand_register depth 0) 0 (k + length xs) (lag + weight_of e) values (x ∷ []) x (pos 0) distance target t u (omega arith) (omega (arith, some)) small
+      let leads = compared_leads code here.objects l laid reach sense Unequal (operand_register depth 0) 0 (k + length xs) (lag + weight_of e) 0 (lag + weight_of e) values (x ∷ []) x (pos 0) distance target t u (omega arith) (omega (arith, some)) (omega arith) small
       (no_count depth 0) no_zero (λ v are zero. (are 0 (omega arith), zero)) (second_stands code k xs rest stands) (omega (arith, ints, target_is, whole)) near valued.0 in
       (leads.0, leads.1, subst (λ n. side (At target 0 values) (At n 0 values) (met sense (holds x)) t leads.0) whole leads.2))
-    where
-      no_zero : IsNoCount 0
-      no_zero = ((λ e. cc), (λ e. cc), (λ e. cc), (λ e. cc))
 
   relation_is : (mark : BinaryMark) (left right : Run ℤ) → is_relation mark ≡ true → binary_meaning mark 0 left right ≡ (left >>= (λ x. right >>= (λ y. gives (marked mark x y))))
   unfolding binary_meaning both_meaning
@@ -173,8 +161,8 @@ module _ (code : List ℕ) (turns : ℕ) (l : Layout) (laid : IsLaidOut l) (here
       (λ v t u marks.
       let x = marks.x in
       let y = marks.y in
-      let leads = compared_leads code here.objects l laid reach sense how.test (placed_by how.turned (operand_register depth 0) (operand_register depth 1)) (placed_by how.turned (operand_register depth 1) (operand_register depth 0)) start late values (x ∷ y ∷ [])
-      (placed_by how.turned x y) (placed_by how.turned y x) distance target t u (omega arith) (omega (arith, some)) (omega arith) apart.0 apart.1 (λ w are zero. registers_of how.turned depth x y w are) standing (omega (arith, ints, target_is, whole)) near marks.on_stack in
+      let leads = compared_leads code here.objects l laid reach sense how.test (placed_by how.turned (operand_register depth 0) (operand_register depth 1)) (placed_by how.turned (operand_register depth 1) (operand_register depth 0)) start late 0 late values (x ∷ y ∷ [])
+      (placed_by how.turned x y) (placed_by how.turned y x) distance target t u (omega arith) (omega (arith, some)) (omega arith) (omega arith) apart.0 apart.1 (λ w are zero. registers_of how.turned depth x y w are) standing (omega (arith, ints, target_is, whole)) near marks.on_stack in
       let same : met sense (passes how.test (placed_by how.turned x y) (placed_by how.turned y x)) ≡ met sense (holds v) = ap (met sense) (sym (ap holds marks.is ∙ relation_holds mark x y relation)) in
       let moved = subst (λ n. side (At target 0 values) (At n 0 values) (met sense (passes how.test (placed_by how.turned x y) (placed_by how.turned y x))) t leads.0) whole leads.2 in
       subst (λ c. (w : MachineState) × LeadsLater code (if c then 1 else 0) (Running u) (Running w) × side (At target 0 values) (At end 0 values) c t w) same (leads.0, leads.1, moved))
@@ -312,8 +300,8 @@ module _ (code : List ℕ) (turns : ℕ) (l : Layout) (laid : IsLaidOut l) (here
 
   -- ---- the whole
 
-  relation_condition : (mark : BinaryMark) (left right : IrTree) → is_relation mark ≡ true → is_straight l (Binary mark left right) ≡ true → (sense : Bool) (k lag : ℕ) (values : List ℤ) (distance : ℤ) (target : ℕ)
-      → length values + height_of (Binary mark left right) ≤ l.depth → lag + weight_of (Binary mark left right) < 2 ^ 31
+  relation_condition : (mark : BinaryMark) (left right : IrTree) → is_relation mark ≡ true → (is_straight_mark mark && is_straight l left && is_straight l right) ≡ true → (sense : Bool) (k lag : ℕ) (values : List ℤ) (distance : ℤ) (target : ℕ)
+      → length values + height_of (Binary mark left right) ≤ l.depth → lag + (weight_of left + weight_of right) < 2 ^ 31
       → StandHere code k (relation_code here.objects l reach (length values) mark left right sense lag distance)
       → pos target ≡ pos (k + length (relation_code here.objects l reach (length values) mark left right sense lag distance)) +ℤ distance → target ≤ 16777216
       → DoesIn code turns (one_if_met sense) (At k lag values) (value_meaning here called (Binary mark left right))

@@ -1,3 +1,1 @@
-pub mod Flushing
-pub mod Deciding
 pub mod Conditions

@@ -1,12 +1,12 @@
 -- The code of conditions: they branch, and make no number that is compared again.
-use Rattle.std.specs.Prelude.{ℕ, zero, suc, ◌+◌, ℤ, pos, ◌+ℤ◌, Bool, true, false, not, if◌then◌else◌, List, [], ◌++◌, length}
+use Rattle.std.specs.Prelude.{ℕ, ◌+◌, ℤ, pos, ◌+ℤ◌, Bool, true, false, not, if◌then◌else◌, List, ◌++◌, length}
 use Rattle.c_tree.specs.declared.expression.BinaryMark.{BinaryMark}
 use Rattle.c_tree.specs.declared.expression.BinaryMark.TheVariants as binary
 use Rattle.operator_meaning.specs.declared.object.Object.{Object}
 use Rattle.rv_encode.specs.declared.instruction.Instr.{Instr}
 use Rattle.ir_arena.specs.Tree.{IrTree, Not, Binary}
-use Rattle.code_lines.specs.Pieces.{count_code}
-use Rattle.code_jumps.specs.Jumps.{Test, Equal, Unequal, Less, NotLess, opposite, Reach, branch_code}
+use Rattle.code_lines.specs.Pieces.{flush_code}
+use Rattle.code_jumps.specs.Jumps.{Test, Equal, Unequal, Less, NotLess, Reach, jump_where}
 use Rattle.code_stacks.specs.Places.{Layout}
 use Rattle.code_stacks.specs.Operands.{operand_register, fetches}
 use Rattle.expression_code.specs.Code.{expression_code, weight_of}
@@ -36,22 +36,6 @@ is_relation binary.Ge = true
 is_relation mark = false
 
 -- ---- branches
-
--- the weight by which the count lags behind is added, if there is any
-abbrev pub flush_code : ℕ → List Instr
-flush_code zero = []
-flush_code (suc weight) = count_code (suc weight)
-
--- the test, or its opposite
-abbrev pub sensed : (sense : Bool) → Test → Test
-sensed true test = test
-sensed false test = opposite test
-
--- A jump by so many words from the end of this code, where the test of two registers is passed as is wanted; before it
--- the count is brought up.
-abbrev pub jump_where : Reach → (sense : Bool) → Test → (rs1 rs2 : ℕ) → (distance : ℤ) → List Instr
-jump_where reach sense test rs1 rs2 distance =
-    branch_code reach (sensed sense test) rs1 rs2 (pos (length (branch_code reach (sensed sense test) rs1 rs2 distance)) +ℤ distance)
 
 -- the one of two, or the other where they change places
 abbrev pub placed_by : {A : Type 0} → (turned : Bool) → A → A → A

@@ -1,5 +1,5 @@
 -- What is promised of the code of a condition.
-use Rattle.std.specs.Prelude.{◌≡◌, ℕ, ◌+◌, ◌^◌, ◌<◌, ◌≤◌, max, ℤ, pos, ◌+ℤ◌, Bool, true, false, not, ◌&&◌, if◌then◌else◌, List, length}
+use Rattle.std.specs.Prelude.{◌≡◌, ℕ, ◌+◌, ◌^◌, ◌<◌, ◌≤◌, max, ℤ, pos, ◌+ℤ◌, Bool, true, ◌&&◌, if◌then◌else◌, List, length}
 use Rattle.c_tree.specs.declared.expression.BinaryMark.TheVariants as binary
 use Rattle.operator_meaning.specs.declared.object.Object.{Object}
 use Rattle.source_runs.specs.Runs.{holds}
@@ -7,7 +7,7 @@ use Rattle.typed_meaning.specs.Expressions.{Setting, Called}
 use Rattle.ir_arena.specs.Tree.{IrTree, Not, Binary}
 use Rattle.tree_meaning.specs.Trees.{value_meaning}
 use Rattle.template_runs.specs.Machine.{StandHere}
-use Rattle.code_jumps.specs.Jumps.{Reach}
+use Rattle.code_jumps.specs.Jumps.{Reach, met}
 use Rattle.code_runs.specs.Doing.{Bond, DoesIn, side}
 use Rattle.code_stacks.specs.Places.{Layout, IsLaidOut}
 use Rattle.code_stacks.specs.Agreement.{With}
@@ -38,11 +38,6 @@ weight_of_condition (Binary binary.Either left right) = weight_of_condition left
 weight_of_condition tree = weight_of tree
 
 -- ---- where it leads
-
--- a condition holds, or does not, as is wanted
-abbrev pub met : (sense : Bool) → Bool → Bool
-met true b = b
-met false b = not b
 
 abbrev pub Decided : List Object → Layout → (target end : ℕ) → List ℤ → (sense : Bool) → ℤ → Bond
 Decided objects l target end values sense value = side (With objects l target 0 values) (With objects l end 0 values) (met sense (holds value))

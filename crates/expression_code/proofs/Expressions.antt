@@ -3,16 +3,19 @@ use Rattle.std.proofs.Common.{◌≡◌, ℕ, ◌+◌, ◌+ℤ◌, ◌-ℤ◌, �
 use Rattle.std.specs.Prelude.{FitsSigned, neg_ℤ}
 use Rattle.std.specs.Int.{w16}
 use Rattle.std.proofs.lemmas.Bool.Decides.{nat_tests}
+use Rattle.c_tree.specs.declared.expression.BinaryMark.{BinaryMark}
+use Rattle.c_tree.specs.declared.expression.BinaryMark.TheVariants as binary
 use Rattle.operator_meaning.specs.declared.site.SiteKind.{SiteKind}
 use Rattle.operator_meaning.specs.declared.site.SiteKind.TheVariants as kind
 use Rattle.source_runs.specs.Marks.{unary_meaning, binary_meaning, both_meaning}
 use Rattle.typed_meaning.specs.Expressions.{Setting, Called}
-use Rattle.ir_arena.specs.Tree.{IrTree, IrTrees, Constant, Read, Operate, Convert, Not, Invert, Binary, ReadFlag, Variable, end, more}
+use Rattle.ir_arena.specs.Tree.{IrTree, IrTrees, Constant, Read, Operate, Convert, Not, Invert, Binary, Choose, ReadFlag, Variable, end, more}
 use Rattle.tree_meaning.specs.Parts.{operate_meaning}
 use Rattle.code_stacks.specs.Places.{Layout, IsLaidOut}
 use Rattle.expression_code.specs.Laws.{AreScalars}
 use Rattle.expression_code.specs.Straight.{is_straight, are_straight, count_in}
 use Rattle.expression_code.proofs.Leaves.{both_true, DoesExpression, constant_does, flag_does, variable_does, convert_does, not_does, invert_does}
+use Rattle.expression_code.proofs.Choices.{both_does, either_does, choose_does}
 use Rattle.expression_code.proofs.Pairs.{binary_does}
 use Rattle.expression_code.proofs.Calls.{DoesOperands, site_small, no_operands, some_operands, call_does}
 use Rattle.expression_code.proofs.Arithmetic.{two_plain, one_plain, sum_plain, difference_plain, product_plain, opposite_plain}
@@ -52,6 +55,12 @@ module _ (code : List ℕ) (turns : ℕ) (l : Layout) (laid : IsLaidOut l) (here
   never : (e : IrTree) → is_straight l e ≡ false → DoesExpression code turns l laid here called scalars e
   never e other k lag values straight room stands = absurd (let f = straight in let g = other in cc)
 
+  marked_does : (left right : IrTree) → DoesExpression code turns l laid here called scalars left → DoesExpression code turns l laid here called scalars right → (mark : BinaryMark)
+      → DoesExpression code turns l laid here called scalars (Binary mark left right)
+  marked_does left right does does_right binary.Both = both_does code turns l laid here called scalars left right does does_right
+  marked_does left right does does_right binary.Either = either_does code turns l laid here called scalars left right does does_right
+  marked_does left right does does_right mark = binary_does code turns l laid here called scalars left right does does_right mark
+
   above_two : (count : ℕ) → ((count + 1 + 1 + 1) == 2) ≡ false
   above_two count = grind (arith, nat_tests)
 
@@ -74,7 +83,8 @@ module _ (code : List ℕ) (turns : ℕ) (l : Layout) (laid : IsLaidOut l) (here
     expression_does (Convert cast width part) = convert_does code turns l laid here called scalars cast width part (expression_does part)
     expression_does (Not part) = not_does code turns l laid here called scalars part (expression_does part)
     expression_does (Invert part) = invert_does code turns l laid here called scalars part (expression_does part)
-    expression_does (Binary mark left right) = binary_does code turns l laid here called scalars left right (expression_does left) (expression_does right) mark
+    expression_does (Binary mark left right) = marked_does left right (expression_does left) (expression_does right) mark
+    expression_does (Choose cond this other) = choose_does code turns l laid here called scalars cond this other (expression_does cond) (expression_does this) (expression_does other)
     expression_does (ReadFlag word) = flag_does code turns l laid here called scalars word
     expression_does e = never e refl
 

@@ -16,7 +16,7 @@ use Rattle.source_runs.specs.Shapes.{shape_of}
 use Rattle.source_runs.proofs.Operators.{fits_32}
 use Rattle.source_runs.specs.State.{SourceState, converted, number_at, location}
 use Rattle.typed_meaning.specs.Expressions.{Setting, Called}
-use Rattle.ir_arena.specs.Tree.{IrTree, Constant, Read, Operate, Convert, Not, Invert, Binary, ReadFlag, Variable}
+use Rattle.ir_arena.specs.Tree.{IrTree, Constant, Read, Operate, Convert, Not, Invert, Binary, Choose, ReadFlag, Variable}
 use Rattle.tree_meaning.specs.Trees.{value_meaning}
 use Rattle.rv_encode.specs.declared.instruction.Instr.{Instr}
 use Rattle.rv_encode.specs.declared.instruction.Instr.TheVariants.{Addi}
@@ -62,6 +62,7 @@ some_height (Convert cast width part) = some_height part
 some_height (Not part) = some_height part
 some_height (Invert part) = some_height part
 some_height (Binary mark left right) = omega (arith, some_height left)
+some_height (Choose cond this other) = omega (arith, some_height cond)
 some_height e = omega arith
 
 differ_flag : ◌≢◌ {A = ℕ} 27 5

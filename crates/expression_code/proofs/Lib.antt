@@ -1,5 +1,6 @@
 pub mod Numbers
 pub mod Computing
+pub mod Deciding
 pub mod Sites
 pub mod Operators
 pub mod Values
@@ -8,4 +9,5 @@ pub mod Leaves
 pub mod Pairs
 pub mod Calls
 pub mod Arithmetic
+pub mod Choices
 pub mod Expressions

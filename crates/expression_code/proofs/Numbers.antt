@@ -19,6 +19,9 @@ equal_test x y fits fits2 = grind (arith, ints, nat_tests)
 pub unequal_test : (x y : ℤ) → FitsSigned w32 x → FitsSigned w32 y → flag_of (is_below (pos 0) (int_wrapping_sub w32 x y)) ≡ truth (not (int_eq x y))
 unequal_test x y fits fits2 = grind (arith, ints, nat_tests)
 
+pub above_zero : (x : ℤ) → FitsSigned w32 x → flag_of (is_below (pos 0) x) ≡ truth (not (int_eq x (pos 0)))
+above_zero x fits = grind (arith, ints, nat_tests)
+
 pub turned_test : (b : Bool) → int_bit_xor w32 (flag_of b) (pos 1) ≡ truth (not b)
 turned_test true = refl
 turned_test false = refl

@@ -100,7 +100,13 @@ module _ (code : List ℕ) (turns : ℕ) (l : Layout) (laid : IsLaidOut l) (here
         (λ y t n at. finishes x y t n fits (second_fits (k + length xs + length ys) (lag + weight_of left + weight_of right) values x y t n at) (second_stands code (k + length xs) ys rest later) at)
         s m valued.0)
 
-    pub binary_does : (mark : BinaryMark) → DoesExpression code turns l laid here called scalars (Binary mark left right)
+    abbrev pair_code : BinaryMark → ℕ → List Instr
+    pair_code mark depth = code_of left depth ++ (code_of right (depth + 1) ++ around l depth 2 (binary_line mark depth))
+
+    pub binary_does : (mark : BinaryMark) (k lag : ℕ) (values : List ℤ) → (is_straight_mark mark && is_straight l left && is_straight l right) ≡ true → length values + height_of (Binary mark left right) ≤ l.depth
+        → StandHere code k (pair_code mark (length values))
+        → Does code turns (At k lag values) (value_meaning here called (Binary mark left right))
+        (Valued code turns l laid here called scalars (k + length (pair_code mark (length values))) (lag + (weight_of left + weight_of right)) values (Binary mark left right))
     binary_does mark k lag values straight room stands =
         let parts = both_true (is_straight_mark mark && is_straight l left) (is_straight l right) straight in
         let firsts = both_true (is_straight_mark mark) (is_straight l left) parts.0 in

@@ -18,10 +18,10 @@ use Rattle.code_lines.proofs.Pieces.{numbers_are_made}
 use Rattle.code_stacks.specs.Places.{Layout, IsLaidOut, stack_register}
 use Rattle.code_stacks.specs.Operands.{operand_register}
 use Rattle.code_stacks.proofs.Registers.{stack_work, operand_work, work_apart}
-use Rattle.expression_code.specs.Code.{narrow_line, not_line, invert_line, binary_line}
+use Rattle.expression_code.specs.Code.{narrow_line, not_line, truth_line, invert_line, binary_line}
 use Rattle.expression_code.specs.Straight.{is_straight_mark}
 use Rattle.expression_code.proofs.Computing.{AreIn, Computes}
-use Rattle.expression_code.proofs.Numbers.{zero_test, equal_test, unequal_test, turned_test, not_less, narrowed, inverted, low_fits, truth_fits}
+use Rattle.expression_code.proofs.Numbers.{zero_test, above_zero, equal_test, unequal_test, turned_test, not_less, narrowed, inverted, low_fits, truth_fits}
 
 itself : (n : ℕ) → (n == n) ≡ true
 itself n = grind (arith, nat_tests)
@@ -121,6 +121,14 @@ module _ (code : List ℕ) (objects : List Object) (l : Layout) (laid : IsLaidOu
     gives = λ f are zero flag. rw (itself r, are 0 (omega arith)) (zero_test x fits);
     others = λ f m apart five. rw (another m r apart) refl;
     fits = truth_fits (int_eq x (pos 0));
+  }
+
+  pub tells : (x : ℤ) → FitsSigned w32 x → Computes code objects l laid depth (x ∷ []) overflow (truth_line depth) (truth (not (int_eq x (pos 0))))
+  tells x fits = record {
+    sets = rw (settable depth) refl;
+    gives = λ f are zero flag. rw (itself r, are 0 (omega arith), zero) (above_zero x fits);
+    others = λ f m apart five. rw (another m r apart) refl;
+    fits = truth_fits (not (int_eq x (pos 0)));
   }
 
   pub inverts : (x : ℤ) → FitsSigned w32 x → Computes code objects l laid depth (x ∷ []) overflow (invert_line depth) (int_bit_not w32 x)

@@ -1,5 +1,5 @@
--- The code of expressions over scalars, without conditions: each leaves its value on the stack.
-use Rattle.std.specs.Prelude.{ℕ, zero, suc, ◌+◌, ℤ, pos, negsuc, int_le, Bool, true, false, ◌&&◌, List, [], ◌∷◌, ◌++◌}
+-- The code of expressions over scalars: each leaves its value on the stack.
+use Rattle.std.specs.Prelude.{ℕ, zero, suc, ◌+◌, ℤ, pos, negsuc, int_le, Bool, true, false, ◌&&◌, List, [], ◌∷◌, ◌++◌, length}
 use Rattle.sat_base.specs.declared.width.Width.{Width}
 use Rattle.sat_base.specs.declared.width.Width.TheVariants.{W16, W32}
 use Rattle.c_tree.specs.declared.expression.BinaryMark.{BinaryMark}
@@ -16,8 +16,9 @@ use Rattle.rv_encode.specs.declared.instruction.Instr.{Instr}
 use Rattle.rv_encode.specs.declared.instruction.Instr.TheVariants.{Addi, Sltiu, Xori, Slli, Srai, Slt, Sltu, Xor, Or, And, Sub}
 use Rattle.template_runs.specs.declared.registers.Registers.{Registers}
 use Rattle.operator_lowering.specs.Words.{template_words}
-use Rattle.ir_arena.specs.Tree.{IrTree, IrTarget, IrTrees, Constant, Read, Operate, Convert, Not, Invert, Binary, ReadFlag, Variable, end, more}
-use Rattle.code_lines.specs.Pieces.{number_code}
+use Rattle.ir_arena.specs.Tree.{IrTree, IrTarget, IrTrees, Constant, Read, Operate, Convert, Not, Invert, Binary, Choose, ReadFlag, Variable, end, more}
+use Rattle.code_lines.specs.Pieces.{number_code, flush_code}
+use Rattle.code_jumps.specs.Jumps.{Unequal, jump_where, past_code, reach_of, is_near}
 use Rattle.code_memory.specs.Memory.{load_code}
 use Rattle.code_stacks.specs.Places.{Layout, stack_register}
 use Rattle.code_stacks.specs.Operands.{operand_register, fetches, finish_code}
@@ -115,38 +116,13 @@ binary_line binary.Gt depth = Slt (stack_register depth) (operand_register depth
 binary_line binary.Ge depth = turned depth (Slt (stack_register depth) (operand_register depth 0) (operand_register depth 1))
 binary_line mark depth = []
 
--- ---- expressions
-
-module _ (objects : List Object) (l : Layout) where
-  -- a value is converted to a width, but where its form shows that it has it
-  abbrev pub convert_code : Width → (shown : Bool) → (depth : ℕ) → List Instr
-  convert_code W32 shown depth = []
-  convert_code W16 true depth = []
-  convert_code W16 false depth = around l depth 1 (narrow_line depth)
-
-  abbrev mutual
-    pub expression_code : IrTree → (depth : ℕ) → List Instr
-    expression_code (Constant value) depth = number_code (stack_register depth) value ++ finish_code l depth
-    expression_code (Read target) depth = read_code target depth
-    expression_code (Operate site kind operands weight) depth = operands_code (widths_of kind) operands depth ++ site_code l depth (count_of kind) site kind
-    expression_code (Convert cast width part) depth = expression_code part depth ++ convert_code width (fits_sixteen objects part) depth
-    expression_code (Not part) depth = expression_code part depth ++ around l depth 1 (not_line depth)
-    expression_code (Invert part) depth = expression_code part depth ++ around l depth 1 (invert_line depth)
-    expression_code (Binary mark left right) depth = expression_code left depth ++ (expression_code right (depth + 1) ++ around l depth 2 (binary_line mark depth))
-    expression_code (ReadFlag word) depth = Addi (stack_register depth) 27 (pos 0) ∷ finish_code l depth
-    expression_code tree depth = []
-
-    pub read_code : IrTarget → (depth : ℕ) → List Instr
-    read_code (Variable object) depth = load_code (stack_register depth) (l.slot object) ++ finish_code l depth
-    read_code target depth = []
-
-    -- operands one after the other, each converted to the width of its place
-    pub operands_code : List Width → IrTrees → (depth : ℕ) → List Instr
-    operands_code widths end depth = []
-    operands_code widths (more first rest) depth =
-        (expression_code first depth ++ convert_code (first_width widths) (fits_sixteen objects first) depth) ++ operands_code (other_widths widths) rest (depth + 1)
-
 -- ---- the weight by which the count lags behind
+
+-- Where the right operand may be left out, its weight, and that of the left one, is brought up at once.
+abbrev pub weight_by : BinaryMark → (left right : ℕ) → ℕ
+weight_by binary.Both left right = 0
+weight_by binary.Either left right = 0
+weight_by mark left right = left + right
 
 -- operators alone are counted
 abbrev pub own_weight : SiteKind → ℕ → ℕ
@@ -159,9 +135,81 @@ abbrev mutual
   weight_of (Convert cast width part) = weight_of part
   weight_of (Not part) = weight_of part
   weight_of (Invert part) = weight_of part
-  weight_of (Binary mark left right) = weight_of left + weight_of right
+  weight_of (Binary mark left right) = weight_by mark (weight_of left) (weight_of right)
   weight_of tree = 0
 
   pub weights_of : IrTrees → ℕ
   weights_of end = 0
   weights_of (more first rest) = weight_of first + weights_of rest
+
+-- ---- values that are evaluated in part
+
+-- 1 where the value is not 0, and else 0
+abbrev pub truth_line : ℕ → List Instr
+truth_line depth = Sltu (stack_register depth) 0 (operand_register depth 0) ∷ []
+
+abbrev pub constant_code : Layout → ℤ → (depth : ℕ) → List Instr
+constant_code l value depth = number_code (stack_register depth) value ++ finish_code l depth
+
+-- a branch over so many words where the value on top, which it takes, is 0; before it a weight is brought up
+abbrev pub over_code : Layout → (depth weight words : ℕ) → List Instr
+over_code l depth weight words = fetches l depth 1 ++ (flush_code weight ++ jump_where (reach_of words) false Unequal (operand_register depth 0) 0 (pos words))
+
+abbrev pub pass_code : (words : ℕ) → List Instr
+pass_code words = past_code (is_near words) (pos words)
+
+-- a value with its weight, and code for the case that it is not 0 and for the case that it is
+abbrev pub chosen_code : Layout → (depth weight : ℕ) → (value this other : List Instr) → List Instr
+chosen_code l depth weight value this other =
+    value ++ (over_code l depth weight (length (this ++ pass_code (length other))) ++ ((this ++ pass_code (length other)) ++ other))
+
+-- code of a value, and its weight
+abbrev pub counted_code : (value : List Instr) → (weight : ℕ) → List Instr
+counted_code value weight = value ++ flush_code weight
+
+abbrev pub truth_code : Layout → (depth : ℕ) → (value : List Instr) → (weight : ℕ) → List Instr
+truth_code l depth value weight = counted_code value weight ++ around l depth 1 (truth_line depth)
+
+-- the code of an operand, with its weight
+pub record Operand : Type 0 where
+  pub code : (depth : ℕ) → List Instr
+  pub weight : ℕ
+
+abbrev pub marked_code : Layout → BinaryMark → (depth : ℕ) → (left right : Operand) → List Instr
+marked_code l binary.Both depth left right = chosen_code l depth left.weight (left.code depth) (truth_code l depth (right.code depth) right.weight) (constant_code l (pos 0) depth)
+marked_code l binary.Either depth left right = chosen_code l depth left.weight (left.code depth) (constant_code l (pos 1) depth) (truth_code l depth (right.code depth) right.weight)
+marked_code l mark depth left right = left.code depth ++ (right.code (depth + 1) ++ around l depth 2 (binary_line mark depth))
+
+-- ---- expressions
+
+module _ (objects : List Object) (l : Layout) where
+  -- a value is converted to a width, but where its form shows that it has it
+  abbrev pub convert_code : Width → (shown : Bool) → (depth : ℕ) → List Instr
+  convert_code W32 shown depth = []
+  convert_code W16 true depth = []
+  convert_code W16 false depth = around l depth 1 (narrow_line depth)
+
+  abbrev mutual
+    pub expression_code : IrTree → (depth : ℕ) → List Instr
+    expression_code (Constant value) depth = constant_code l value depth
+    expression_code (Read target) depth = read_code target depth
+    expression_code (Operate site kind operands weight) depth = operands_code (widths_of kind) operands depth ++ site_code l depth (count_of kind) site kind
+    expression_code (Convert cast width part) depth = expression_code part depth ++ convert_code width (fits_sixteen objects part) depth
+    expression_code (Not part) depth = expression_code part depth ++ around l depth 1 (not_line depth)
+    expression_code (Invert part) depth = expression_code part depth ++ around l depth 1 (invert_line depth)
+    expression_code (Binary mark left right) depth =
+        marked_code l mark depth (record { code = expression_code left; weight = weight_of left }) (record { code = expression_code right; weight = weight_of right })
+    expression_code (Choose cond this other) depth =
+        chosen_code l depth (weight_of cond) (expression_code cond depth) (counted_code (expression_code this depth) (weight_of this)) (counted_code (expression_code other depth) (weight_of other))
+    expression_code (ReadFlag word) depth = Addi (stack_register depth) 27 (pos 0) ∷ finish_code l depth
+    expression_code tree depth = []
+
+    pub read_code : IrTarget → (depth : ℕ) → List Instr
+    read_code (Variable object) depth = load_code (stack_register depth) (l.slot object) ++ finish_code l depth
+    read_code target depth = []
+
+    -- operands one after the other, each converted to the width of its place
+    pub operands_code : List Width → IrTrees → (depth : ℕ) → List Instr
+    operands_code widths end depth = []
+    operands_code widths (more first rest) depth =
+        (expression_code first depth ++ convert_code (first_width widths) (fits_sixteen objects first) depth) ++ operands_code (other_widths widths) rest (depth + 1)

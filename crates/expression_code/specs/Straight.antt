@@ -1,12 +1,12 @@
--- Expressions that have such code: over scalars, with operators and plain arithmetic, and without conditions.
+-- Expressions that have such code: over scalars, with operators, plain arithmetic and choices.
 use Rattle.std.specs.Prelude.{ℕ, ◌+◌, max, Bool, true, false, ◌&&◌, ◌==◌, nat_lt, ℤ, pos, negsuc, int_le}
 use Rattle.c_tree.specs.declared.expression.BinaryMark.{BinaryMark}
 use Rattle.c_tree.specs.declared.expression.BinaryMark.TheVariants as binary
 use Rattle.operator_meaning.specs.declared.site.SiteKind.{SiteKind}
 use Rattle.operator_meaning.specs.declared.site.SiteKind.TheVariants as kind
-use Rattle.ir_arena.specs.Tree.{IrTree, IrTarget, IrTrees, Constant, Read, Operate, Convert, Not, Invert, Binary, ReadFlag, Variable, end, more}
+use Rattle.ir_arena.specs.Tree.{IrTree, IrTarget, IrTrees, Constant, Read, Operate, Convert, Not, Invert, Binary, Choose, ReadFlag, Variable, end, more}
 use Rattle.code_stacks.specs.Places.{Layout}
-use Rattle.expression_code.specs.Code.{count_of}
+use Rattle.expression_code.specs.Code.{count_of, weight_of}
 
 abbrev pub is_number : ℤ → Bool
 is_number value = int_le (negsuc 2147483647) value && int_le value (pos 2147483647)
@@ -40,6 +40,16 @@ abbrev pub count_in : IrTrees → ℕ
 count_in end = 0
 count_in (more first rest) = count_in rest + 1
 
+-- a weight that can be brought up at once
+abbrev pub is_light : ℕ → Bool
+is_light weight = nat_lt weight 2147483648
+
+-- the marks, with the weights of their operands
+abbrev pub is_marked : BinaryMark → (left right : ℕ) → Bool
+is_marked binary.Both left right = is_light left && is_light right
+is_marked binary.Either left right = is_light left && is_light right
+is_marked mark left right = is_straight_mark mark
+
 abbrev mutual
   pub is_straight : Layout → IrTree → Bool
   is_straight l (Constant value) = is_number value
@@ -48,7 +58,8 @@ abbrev mutual
   is_straight l (Convert cast width part) = is_straight l part
   is_straight l (Not part) = is_straight l part
   is_straight l (Invert part) = is_straight l part
-  is_straight l (Binary mark left right) = is_straight_mark mark && is_straight l left && is_straight l right
+  is_straight l (Binary mark left right) = is_marked mark (weight_of left) (weight_of right) && is_straight l left && is_straight l right
+  is_straight l (Choose cond this other) = (is_light (weight_of cond) && is_straight l cond) && ((is_light (weight_of this) && is_straight l this) && (is_light (weight_of other) && is_straight l other))
   is_straight l (ReadFlag word) = true
   is_straight l tree = false
 
@@ -64,6 +75,7 @@ abbrev mutual
   height_of (Not part) = height_of part
   height_of (Invert part) = height_of part
   height_of (Binary mark left right) = max (height_of left) (1 + height_of right)
+  height_of (Choose cond this other) = max (height_of cond) (max (height_of this) (height_of other))
   height_of tree = 1
 
   pub heights_of : IrTrees → ℕ

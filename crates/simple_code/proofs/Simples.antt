@@ -6,18 +6,20 @@ use Rattle.std.proofs.lemmas.Bool.{cases_Bool, eqb-true}
 use Rattle.std.proofs.lemmas.Bool.Decides.{nat_tests}
 use Rattle.std.proofs.lemmas.Int.{ints}
 use Rattle.sat_base.specs.Clip.{low16}
-use Rattle.sat_base.specs.declared.width.Width.{Width}
+use Rattle.c_tree.specs.declared.simple.AssignMark.{AssignMark}
 use Rattle.c_tree.specs.declared.simple.AssignMark.TheVariants as assign
 use Rattle.operator_meaning.specs.declared.object.Object.{Object}
 use Rattle.source_runs.specs.Calls.{sample_out}
-use Rattle.source_runs.specs.Marks.{assigned}
-use Rattle.source_runs.specs.Runs.{Run, gives, ◌>>=◌, ◌>>◌, changing, reading}
+use Rattle.source_runs.specs.Marks.{assigned, binary_meaning, both_meaning}
+use Rattle.source_runs.specs.Runs.{Outcome, Gives, Stops, Goes, Run, continued, gives, ◌>>=◌, ◌>>◌, changing, reading}
 use Rattle.source_runs.specs.Shapes.{shape_of}
-use Rattle.source_runs.specs.State.{SourceState, converted, written, location, counted, put, with_overflow}
-use Rattle.typed_meaning.specs.Expressions.{Setting, Called}
-use Rattle.typed_meaning.specs.Statements.{assignment_meaning}
-use Rattle.ir_arena.specs.Tree.{IrTree, Write, WriteFlag, Out, AddCount, Variable}
-use Rattle.tree_meaning.specs.Trees.{node_meaning, value_meaning}
+use Rattle.source_runs.specs.State.{Kept, SourceState, converted, written, location, counted, put, with_overflow}
+use Rattle.source_runs.specs.declared.location.Access.TheVariants.{Element}
+use Rattle.typed_meaning.specs.Expressions.{Setting, Called, site_at}
+use Rattle.typed_meaning.specs.Statements.{assignment_meaning, step_mark}
+use Rattle.ir_arena.specs.Tree.{IrTree, Constant, Write, Step, WriteFlag, Out, AddCount, Variable}
+use Rattle.tree_meaning.specs.Parts.{operate_meaning}
+use Rattle.tree_meaning.specs.Trees.{node_meaning, value_meaning, target_meaning}
 use Rattle.rv_encode.specs.declared.instruction.Instr.{Instr}
 use Rattle.rv_encode.specs.declared.instruction.Instr.TheVariants.{Addi, Ecall}
 use Rattle.rv_encode.specs.State.{MachineState, Running, register, next_pc}
@@ -40,9 +42,14 @@ use Rattle.expression_code.specs.Straight.{is_straight, height_of}
 use Rattle.expression_code.proofs.Expressions.{expression_does}
 use Rattle.expression_code.proofs.Leaves.{both_true, some_height}
 use Rattle.expression_code.proofs.Placing.{top_fits, convert_done}
-use Rattle.simple_code.specs.Code.{value_register, out_line, simple_code, is_simple, weight_of_simple}
-use Rattle.simple_code.specs.Laws.{height_of_simple}
+use Rattle.simple_code.specs.Code.{value_register, out_line, computed, written_by, stepped_by, assigned_code, simple_code, is_simple, weight_of_simple, height_of_simple}
 use Rattle.simple_code.proofs.States.{agrees_counted, agrees_flagged, agrees_put, agrees_written}
+
+-- what follows what follows
+in_row_of : {A B C : Type 0} (o : Outcome A) (next : A → Run B) (more : B → Run C) → continued (continued o next) more ≡ continued o (λ a s. continued (next a s) more)
+in_row_of (Gives a s) next more = refl
+in_row_of (Stops site s) next more = refl
+in_row_of (Goes s) next more = refl
 
 unequal : (a b : ℕ) → (a == b) ≡ false → a ≢ b
 unequal a b apart e = grind (arith, nat_tests)
@@ -166,53 +173,86 @@ module _ (code : List ℕ) (turns : ℕ) (l : Layout) (laid : IsLaidOut l) (here
 
     -- ---- variables
 
-    object_is : (n : ℕ) (found : Option Object) → slice_get here.objects n ≡ found → (shape_of here.objects n).object ≡ n
-    object_is n None is = rw is refl
-    object_is n (Some object) is = rw is refl
-
-    -- what an assignment to a scalar does
-    write_is : (n : ℕ) (width : Width) (site : Option ℕ) (s : SourceState) → (shape_of here.objects n).view ≡ false
-        → (node_meaning here called (Write (Variable n) assign.Plain width site value)).change s
-        ≡ (value_meaning here called value >>= (λ x. changing (written (shape_of here.objects (shape_of here.objects n).object).width (location (shape_of here.objects n).object 0) x))) s
-    unfolding assignment_meaning assigned reading ◌>>=◌
-    write_is n width site s scalar = rw scalar refl
-
-    write_does : (n : ℕ) (width : Width) (site : Option ℕ) (k lag : ℕ) → l.is_variable n ≡ true → StandHere code k (simple_code here.objects l (Write (Variable n) assign.Plain width site value))
-        → Does code turns (At k lag) (node_meaning here called (Write (Variable n) assign.Plain width site value)).change
-        (λ done. At (k + length (simple_code here.objects l (Write (Variable n) assign.Plain width site value))) (lag + weight_of value))
+    -- Where the value is on the stack, it goes to the word of the variable, converted to its width. That does what any change
+    -- does which writes the value to the variable wherever source and machine agree.
+    pub stored_does : (n k lag : ℕ) (x : ℤ) (change : Kept → Kept) → l.is_variable n ≡ true
+        → ((kept : Kept) (m : MachineState) → Agrees here.objects l lag kept m → change kept ≡ written (shape_of here.objects n).width (location n 0) x kept)
+        → StandHere code k (convert_code here.objects l (shape_of here.objects n).width (fits_sixteen here.objects value) 0 ++ store_code value_register (l.slot n))
+        → Does code turns (Valued here.objects l k lag [] value x) (changing change)
+        (λ done. At (k + length (convert_code here.objects l (shape_of here.objects n).width (fits_sixteen here.objects value) 0 ++ store_code value_register (l.slot n))) lag)
     unfolding changing
-    write_does n width site k lag is stands s m at =
-        let xs = value_code value in
+    stored_does n k lag x change is same stands t v valued =
         let wide = (shape_of here.objects n).width in
         let cs = convert_code here.objects l wide (fits_sixteen here.objects value) 0 in
         let storing = store_code value_register (l.slot n) in
-        let place = k + length (xs ++ (cs ++ storing)) in
-        let whole : k + length xs + length cs + length storing ≡ place = omega (arith, length-append xs (cs ++ storing), length-append cs storing) in
-        let own : (shape_of here.objects n).object ≡ n = object_is n (slice_get here.objects n) refl in
-        let same : (value_meaning here called value >>= (λ x. changing (written (shape_of here.objects (shape_of here.objects n).object).width (location (shape_of here.objects n).object 0) x)))
-        ≡ (value_meaning here called value >>= (λ x. changing (written wide (location n 0) x))) =
-        ap (λ o. value_meaning here called value >>= (λ x. changing (written (shape_of here.objects o).width (location o 0) x))) own in
-        subst (Comes code turns (Running m) (λ done. 0) (λ done. At place (lag + weight_of value)))
-        (sym (write_is n width site s (scalars n is) ∙ ap (λ run. run s) same))
-        (valued_does k lag (cs ++ storing) (λ x. changing (written wide (location n 0) x)) (λ done. At place (lag + weight_of value)) stands
-        (λ x t v standing valued.
-        let late = lag + weight_of value in
-        let converting = convert_done code here.objects l laid (k + length xs) late [] x wide (fits_sixteen here.objects value) t v valued.1 (omega (arith, some_height value)) (first_stands code (k + length xs) cs storing standing) valued.0 in
+        let whole : k + length cs + length storing ≡ k + length (cs ++ storing) = omega (arith, length-append cs storing) in
+        let converting = convert_done code here.objects l laid k lag [] x wide (fits_sixteen here.objects value) t v valued.1 (omega (arith, some_height value)) (first_stands code k cs storing stands) valued.0 in
         let u = converting.0.0 in
         let there = converting.0.2 in
         let c = converted wide x in
-        let stored = stores_are_done code (k + length xs + length cs) value_register (l.slot n) u (second_stands code (k + length xs) cs storing standing) there.before there.agrees.based
+        let stored = stores_are_done code (k + length cs) value_register (l.slot n) u (second_stands code k cs storing stands) there.before there.agrees.based
         (variable_at l u.memory n laid there.agrees.size is) (unequal 8 5 refl) in
         let w = stored.0 in
-        let kept_there = subst (λ y. IsStored (k + length xs + length cs + length storing) (l.slot n) y u w) (top_is (k + length xs + length cs) late c t u there) stored.2 in
-        let after : SourceState = record t { kept = written wide (location n 0) x t.kept } in (
+        let kept_there = subst (λ y. IsStored (k + length cs + length storing) (l.slot n) y u w) (top_is (k + length cs) lag c t u there) stored.2 in
+        let after : SourceState = record t { kept = written wide (location n 0) x t.kept } in
+        let there_after = subst (λ p. IsWith here.objects l p lag [] after w) whole
+        (bare (k + length cs + length storing) lag after w stored.2.before
+        (agrees_written here.objects l laid lag (k + length cs + length storing) n wide x t.kept u w is refl there.agrees kept_there converting.1)) in (
           w,
           leads_later code (Running v) (Running w) (leads_then code (Running v) (Running u) (Running w) converting.0.1 stored.1),
-          subst (λ p. IsWith here.objects l p late [] after w) whole
-              (bare (k + length xs + length cs + length storing) late after w stored.2.before
-              (agrees_written here.objects l laid late (k + length xs + length cs + length storing) n wide x t.kept u w is refl there.agrees kept_there converting.1)),
-        ))
-        s m at)
+          subst (λ kept. IsWith here.objects l (k + length (cs ++ storing)) lag [] (record t { kept = kept }) w) (sym (same t.kept v valued.0.agrees)) there_after,
+        )
+
+    -- a value is evaluated, and what it gives is written to a variable
+    pub assigned_does : (n k lag : ℕ) (change : ℤ → Kept → Kept) → l.is_variable n ≡ true
+        → ((x : ℤ) (kept : Kept) (m : MachineState) → Agrees here.objects l (lag + weight_of value) kept m → change x kept ≡ written (shape_of here.objects n).width (location n 0) x kept)
+        → StandHere code k (assigned_code here.objects l (Variable n) value)
+        → Does code turns (At k lag) (value_meaning here called value >>= (λ x. changing (change x)))
+        (λ done. At (k + length (assigned_code here.objects l (Variable n) value)) (lag + weight_of value))
+    assigned_does n k lag change is same stands =
+        let xs = value_code value in
+        let rest = convert_code here.objects l (shape_of here.objects n).width (fits_sixteen here.objects value) 0 ++ store_code value_register (l.slot n) in
+        let whole : k + length xs + length rest ≡ k + length (xs ++ rest) = omega (arith, length-append xs rest) in
+        let late = lag + weight_of value in
+        valued_does k lag rest (λ x. changing (change x)) (λ done. At (k + length (xs ++ rest)) late) stands
+        (λ x s m standing valued.
+        subst (λ p. Comes code turns (Running m) (λ done. 0) (λ done. At p late) (changing (change x) s)) whole (stored_does n (k + length xs) late x (change x) is (same x) standing s m valued))
+
+  -- ---- assignments and steps
+
+  pub object_is : (n : ℕ) (found : Option Object) → slice_get here.objects n ≡ found → (shape_of here.objects n).object ≡ n
+  object_is n None is = rw is refl
+  object_is n (Some object) is = rw is refl
+
+  -- what an assignment to a scalar does
+  abbrev assigning : ℕ → Run ℤ → Run (Unit {0})
+  assigning n value = value >>= (λ x. changing (written (shape_of here.objects (shape_of here.objects n).object).width (location (shape_of here.objects n).object 0) x))
+
+  assignment_is : (n : ℕ) (mark : AssignMark) (site : ℕ) (value : IrTree) (s : SourceState) → (shape_of here.objects n).view ≡ false
+      → assignment_meaning here (target_meaning here called (Variable n) Element) mark site (value_meaning here called value) s
+      ≡ assigning n (value_meaning here called (computed (Variable n) mark site value)) s
+  unfolding assignment_meaning assigned reading binary_meaning both_meaning operate_meaning ◌>>=◌
+  assignment_is n assign.Plain site value s scalar = rw scalar refl
+  assignment_is n assign.Plus site value s scalar = rw scalar (sym (in_row_of (value_meaning here called value s) _ _))
+  assignment_is n assign.Minus site value s scalar = rw scalar (sym (in_row_of (value_meaning here called value s) _ _))
+  assignment_is n assign.Times site value s scalar = rw scalar (sym (in_row_of (value_meaning here called value s) _ _))
+  assignment_is n assign.And site value s scalar = rw scalar (sym (in_row_of (value_meaning here called value s) _ _))
+  assignment_is n assign.Or site value s scalar = rw scalar (sym (in_row_of (value_meaning here called value s) _ _))
+  assignment_is n assign.Xor site value s scalar = rw scalar (sym (in_row_of (value_meaning here called value s) _ _))
+
+  assignment_does : (n : ℕ) (mark : AssignMark) (site : ℕ) (value : IrTree) (k lag : ℕ) → l.is_variable n ≡ true → is_straight l (computed (Variable n) mark site value) ≡ true
+      → height_of (computed (Variable n) mark site value) ≤ l.depth → StandHere code k (assigned_code here.objects l (Variable n) (computed (Variable n) mark site value))
+      → Does code turns (At k lag) (assignment_meaning here (target_meaning here called (Variable n) Element) mark site (value_meaning here called value))
+      (λ done. At (k + length (assigned_code here.objects l (Variable n) (computed (Variable n) mark site value))) (lag + weight_of (computed (Variable n) mark site value)))
+  assignment_does n mark site value k lag is straight room stands s m at =
+      let e = computed (Variable n) mark site value in
+      let place = k + length (assigned_code here.objects l (Variable n) e) in
+      let own : (shape_of here.objects n).object ≡ n = object_is n (slice_get here.objects n) refl in
+      let same : (x : ℤ) (kept : Kept) → written (shape_of here.objects (shape_of here.objects n).object).width (location (shape_of here.objects n).object 0) x kept
+      ≡ written (shape_of here.objects n).width (location n 0) x kept = λ x kept. ap (λ o. written (shape_of here.objects o).width (location o 0) x kept) own in
+      subst (Comes code turns (Running m) (λ done. 0) (λ done. At place (lag + weight_of e))) (sym (assignment_is n mark site value s (scalars n is)))
+      (assigned_does e straight room n k lag (λ x. written (shape_of here.objects (shape_of here.objects n).object).width (location (shape_of here.objects n).object 0) x) is
+      (λ x kept m agrees. same x kept) stands s m at)
 
   -- ---- the whole
 
@@ -224,8 +264,12 @@ module _ (code : List ℕ) (turns : ℕ) (l : Layout) (laid : IsLaidOut l) (here
   never part other k lag simple room stands = absurd (let f = simple in let g = other in cc)
 
   pub simple_does : (part : IrTree) → DoesSimple part
-  simple_does (Write (Variable n) assign.Plain width site value) = λ k lag simple room stands.
-      let parts = both_true (l.is_variable n) (is_straight l value) simple in write_does value parts.1 room n width site k lag parts.0 stands
+  simple_does (Write (Variable n) mark width site value) = λ k lag simple room stands.
+      let parts = both_true (l.is_variable n) (is_straight l (written_by (Variable n) mark site value)) simple in
+      assignment_does n mark (site_at site) value k lag parts.0 parts.1 room stands
+  simple_does (Step (Variable n) up width site) = λ k lag simple room stands.
+      let parts = both_true (l.is_variable n) (is_straight l (stepped_by (Variable n) up site)) simple in
+      assignment_does n (step_mark up) site (Constant (pos 1)) k lag parts.0 parts.1 room stands
   simple_does (WriteFlag value) = λ k lag simple room stands. flag_does value simple room k lag stands
   simple_does (Out value) = λ k lag simple room stands. out_does value simple room k lag stands
   simple_does (AddCount weight) = λ k lag simple room stands. count_does weight k lag

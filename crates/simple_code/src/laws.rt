@@ -1,9 +1,14 @@
 // What the code of assignments and their like does.
 
-ghost use Rattle.simple_code.specs.Laws.{SimplesAreDone};
+ghost use Rattle.simple_code.specs.Laws.{SimplesAreDone, StartsAreDone};
 
-/// The code of an assignment to a scalar or to Overflow, of a sample that is written and of a counting call does what these
-/// do, and leaves nothing on the stack.
+/// The code of an assignment to a scalar or to Overflow, of a step, of a sample that is written and of a counting call does
+/// what these do, and leaves nothing on the stack.
 pub fn simples_are_done()
     ensures { SimplesAreDone }
+{}
+
+/// The code by which an object of a block starts does what its start does, and leaves nothing on the stack.
+pub fn starts_are_done()
+    ensures { StartsAreDone }
 {}

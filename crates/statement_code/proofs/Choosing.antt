@@ -10,6 +10,7 @@ use Rattle.rv_encode.specs.State.{MachineState, Running}
 use Rattle.ir_arena.specs.Tree.{IrTree}
 use Rattle.tree_meaning.specs.Trees.{value_meaning}
 use Rattle.template_runs.specs.Machine.{StandHere}
+use Rattle.code_jumps.specs.Jumps.{reach_of}
 use Rattle.code_runs.specs.Doing.{Bond, Does, Moves, one_of_two, side}
 use Rattle.code_runs.proofs.Parts.{later, moves_on, nothing, one_of}
 use Rattle.code_runs.proofs.Steps.{leads_at_all, leads_still}
@@ -20,7 +21,7 @@ use Rattle.condition_code.specs.Code.{condition_code}
 use Rattle.condition_code.specs.Laws.{Decided, one_if_met, weight_of_condition}
 use Rattle.condition_code.proofs.Conditions.{condition_does}
 use Rattle.statement_code.specs.Laws.{AreReached, IsTest, Targets}
-use Rattle.statement_code.specs.Code.{before, Part, choice, first_branch, guarded_code, reach_of, skip_code, whole_code}
+use Rattle.statement_code.specs.Code.{before, Part, choice, first_branch, guarded_code, skip_code, whole_code}
 use Rattle.statement_code.proofs.Parts.{At, Flows, IsDone, flows_on, leaves, left_steady, reached_before, stay, whole_done, whole_steady}
 
 swapped : (a b : Bond) (c : Bool) (s : _) (m : MachineState) → side a b (not c) s m → side b a c s m

@@ -1,45 +1,34 @@
 -- Parts one after the other, with the count brought up where paths meet.
-use Rattle.std.proofs.Common.{◌≡◌, ℕ, ◌+◌, ◌*◌, ◌^◌, ◌<◌, ◌≤◌, ℤ, pos, ◌+ℤ◌, Bool, true, false, List, [], ◌∷◌, ◌++◌, length, length-append, refl, sym, ap, ◌∙◌, subst, arith}
-use Rattle.std.specs.Prelude.{FitsSigned}
-use Rattle.std.specs.Int.{w32, cast_unsigned}
+use Rattle.std.proofs.Common.{◌≡◌, ℕ, ◌+◌, ◌^◌, ◌<◌, ◌≤◌, ℤ, pos, ◌+ℤ◌, Bool, List, [], ◌∷◌, ◌++◌, length, length-append, refl, sym, subst, arith}
 use Rattle.std.proofs.lemmas.Int.{ints}
 use Rattle.operator_meaning.specs.declared.object.Object.{Object}
 use Rattle.source_runs.specs.declared.halt.Flow.{Flow}
 use Rattle.source_runs.specs.declared.halt.Flow.TheVariants.{Normal, Break, Continue, Return}
 use Rattle.source_runs.specs.Loops.{in_sequence, after_statement}
-use Rattle.source_runs.specs.Runs.{Run}
+use Rattle.source_runs.specs.Runs.{Run, all_of, ◌>>◌}
 use Rattle.source_runs.specs.State.{SourceState}
-use Rattle.source_runs.proofs.Turning.{in_sequence-next}
+use Rattle.source_runs.proofs.Turning.{all_of-end, all_of-next, in_sequence-next}
 use Rattle.typed_meaning.specs.Expressions.{Setting}
-use Rattle.rv_encode.specs.State.{MachineState, Running, register}
-use Rattle.rv_encode.specs.Runs.{Leads}
+use Rattle.rv_encode.specs.declared.instruction.Instr.{Instr}
+use Rattle.rv_encode.specs.State.{MachineState, Running}
 use Rattle.rv_encode.proofs.Leads.{leads_nowhere}
 use Rattle.template_runs.specs.Machine.{StandHere}
-use Rattle.code_jumps.specs.Jumps.{jump_code}
-use Rattle.code_jumps.proofs.Jumps.{jumps_are_done}
+use Rattle.code_lines.specs.Pieces.{flush_code}
+use Rattle.code_jumps.specs.Jumps.{past_code}
+use Rattle.code_jumps.proofs.Jumps.{past_steady}
 use Rattle.code_runs.specs.Doing.{Bond, Does, LeadsLater, Moves}
 use Rattle.code_runs.proofs.Parts.{in_turn, nothing, moves_on}
-use Rattle.code_runs.proofs.Steps.{leads_both, leads_later}
+use Rattle.code_runs.proofs.Steps.{leads_later}
 use Rattle.code_stacks.specs.Places.{Layout, IsLaidOut}
 use Rattle.code_stacks.specs.Agreement.{IsWith, With}
 use Rattle.code_stacks.proofs.Operands.{first_stands, second_stands}
-use Rattle.condition_code.specs.Code.{flush_code}
-use Rattle.condition_code.proofs.Flushing.{flushed, unequal}
-use Rattle.condition_code.proofs.Deciding.{IsAfter, with_after}
+use Rattle.expression_code.proofs.Deciding.{flush_moves as weight_moves, leaves as jump_leaves}
 use Rattle.statement_code.specs.Laws.{AreReached, Led, Targets, result_of}
 use Rattle.statement_code.specs.Code.{Exits, before, Part, codes_along, lags_along, whole_code, left_code}
 
 -- a jump has the same length at each distance
-
-same_jump : (near : Bool) (d d2 : ℤ) → length (jump_code near d) ≡ length (jump_code near d2)
-same_jump true d d2 = refl
-same_jump false d d2 = refl
-
 pub left_steady : (objects : List Object) (l : Layout) (near : Bool) (lag : ℕ) (d d2 : ℤ) → length (left_code objects l near lag d) ≡ length (left_code objects l near lag d2)
-left_steady objects l near lag d d2 =
-    let one = jump_code near (pos (length (jump_code near d)) +ℤ d) in
-    let two = jump_code near (pos (length (jump_code near d2)) +ℤ d2) in
-    omega (arith, same_jump near (pos (length (jump_code near d)) +ℤ d) (pos (length (jump_code near d2)) +ℤ d2), length-append (flush_code lag) one, length-append (flush_code lag) two)
+left_steady objects l near lag d d2 = omega (arith, past_steady near d d2, length-append (flush_code lag) (past_code near d), length-append (flush_code lag) (past_code near d2))
 
 -- ---- where parts lead
 
@@ -82,63 +71,14 @@ module _ (code : List ℕ) (turns : ℕ) (l : Layout) (laid : IsLaidOut l) (here
 
   -- ---- the count, and jumps
 
-  pub flush_after : (k lag : ℕ) (args : List ℤ) (s : SourceState) (m : MachineState) → lag < 2 ^ 31 → StandHere code k (flush_code lag) → IsWith here.objects l k lag args s m
-      → (u : MachineState) × Leads code (Running m) (Running u) × IsAfter (k + length (flush_code lag)) lag m u
-  flush_after k lag args s m small stands at =
-      let flush = flushed code k lag m small stands at.before at.agrees.halves in
-      let up = flush.2 in (
-        flush.0,
-        flush.1,
-        record {
-          before = up.before;
-          count = up.count;
-          low_fits = up.halves.0;
-          high_fits = up.halves.1;
-          based = up.others 3 (unequal 3 5 refl, unequal 3 6 refl, unequal 3 24 refl, unequal 3 25 refl);
-          flag = up.others 27 (unequal 27 5 refl, unequal 27 6 refl, unequal 27 24 refl, unequal 27 25 refl);
-          values = λ n least most. up.others n ((λ e. omega (arith, e)), (λ e. omega (arith, e)), (λ e. omega (arith, e)), (λ e. omega (arith, e)));
-          memory = up.memory;
-          input = up.input;
-          output = up.output;
-        },
-      )
-
   pub flush_moves : (k lag : ℕ) → lag < 2 ^ 31 → StandHere code k (flush_code lag) → Moves code (At k lag) (At (k + length (flush_code lag)) 0)
-  flush_moves k lag small stands s m at =
-      let flush = flush_after k lag [] s m small stands at in
-      (flush.0, flush.1, with_after here.objects l (k + length (flush_code lag)) k lag [] [] s m flush.0 at flush.2)
+  flush_moves k lag small stands = weight_moves code here.objects l laid k lag 0 lag [] (omega arith) small stands
 
   -- a jump with the count brought up, which takes some of the stack
   pub leaves : (k lag : ℕ) (values args : List ℤ) (distance : ℤ) (target : ℕ) (s : SourceState) (m : MachineState) → lag < 2 ^ 31 → StandHere code k (left_code here.objects l near lag distance)
       → pos target ≡ pos (k + length (left_code here.objects l near lag distance)) +ℤ distance → target ≤ 16777216 → IsWith here.objects l k lag (values ++ args) s m
       → (v : MachineState) × LeadsLater code 1 (Running m) (Running v) × With here.objects l target 0 values s v
-  leaves k lag values args distance target s m small stands target_is close at =
-      let flushing = flush_code lag in
-      let own = pos (length (jump_code near distance)) +ℤ distance in
-      let jump = jump_code near own in
-      let flush = flush_after k lag (values ++ args) s m small (first_stands code k flushing jump stands) at in
-      let u = flush.0 in
-      let long : length jump ≡ length (jump_code near distance) = same_jump near own distance in
-      let whole = length-append flushing jump in
-      let jumped = jumps_are_done code (k + length flushing) target near own u (second_stands code k flushing jump stands) flush.2.before (omega (arith, ints, target_is, whole, long)) close in
-      let v = jumped.0 in
-      let way = jumped.2 in
-      let up = flush.2 in (
-        v,
-        leads_both code 0 1 (Running m) (Running u) (Running v) (leads_later code (Running m) (Running u) flush.1) jumped.1,
-        with_after here.objects l target k lag values args s m v at (record {
-          before = way.before;
-          count = ap (λ x. cast_unsigned w32 (register v 25) * 2 ^ 32 + cast_unsigned w32 x) (way.others 24 (unequal 24 5 refl)) ∙ ap (λ x. cast_unsigned w32 x * 2 ^ 32 + cast_unsigned w32 (register u 24)) (way.others 25 (unequal 25 5 refl)) ∙ up.count;
-          low_fits = subst (FitsSigned w32) (sym (way.others 24 (unequal 24 5 refl))) up.low_fits;
-          high_fits = subst (FitsSigned w32) (sym (way.others 25 (unequal 25 5 refl))) up.high_fits;
-          based = way.others 3 (unequal 3 5 refl) ∙ up.based;
-          flag = way.others 27 (unequal 27 5 refl) ∙ up.flag;
-          values = λ n least most. way.others n (λ e. omega (arith, e)) ∙ up.values n least most;
-          memory = way.memory ∙ up.memory;
-          input = way.input ∙ up.input;
-          output = way.output ∙ up.output;
-        }),
-      )
+  leaves k lag values args distance target s m = jump_leaves code here.objects l laid k lag 0 lag values args near distance target s m (omega arith)
 
   -- ---- what is not changed
 
@@ -219,3 +159,31 @@ module _ (code : List ℕ) (turns : ℕ) (l : Layout) (laid : IsLaidOut l) (here
         let zs = codes_along parts middle other in
         omega (arith, length-append (part.code lag (before (length ys) ways)) ys, length-append (part.code lag (before (length zs) other)) zs, done.steady lag (before (length ys) ways) (before (length zs) other), rest.steady middle ways other);
   }
+
+  -- ---- several changes
+
+  abbrev pub Changes : (k lag : ℕ) → Run (Unit {0}) → (end late : ℕ) → Type 0
+  Changes k lag run end late = Does code turns (At k lag) run (λ done. At end late)
+
+  pub no_change : (k lag : ℕ) → Changes k lag (all_of []) (k + 0) (lag + 0)
+  no_change k lag =
+      let none : k ≡ k + 0 = omega arith in
+      let light : lag ≡ lag + 0 = omega arith in
+      subst (λ run. Changes k lag run (k + 0) (lag + 0)) (sym all_of-end)
+      (nothing code turns (tt {0}) (At k lag) (λ done. At (k + 0) (lag + 0)) (λ s m at. (m, leads_nowhere code (Running m), subst (λ n. At (k + 0) n s m) light (subst (λ n. At n lag s m) none at))))
+
+  pub then_does : {A : Type 0} (before : Bond) (first : Run (Unit {0})) (next : Run A) (between : Unit {0} → Bond) (after : A → Bond) → Does code turns before first between → Does code turns (between tt) next after
+      → Does code turns before (first >> next) after
+  unfolding ◌>>◌
+  then_does before first next between after does does_next = in_turn code turns before first between (λ done. next) after does (λ done. does_next)
+
+  pub one_change : (xs ys : List Instr) (run : Run (Unit {0})) (runs : List (Run (Unit {0}))) (k lag weight weights : ℕ) → Changes k lag run (k + length xs) (lag + weight)
+      → Changes (k + length xs) (lag + weight) (all_of runs) (k + length xs + length ys) (lag + weight + weights)
+      → Changes k lag (all_of (run ∷ runs)) (k + length (xs ++ ys)) (lag + (weight + weights))
+  one_change xs ys run runs k lag weight weights does others =
+      let place = k + length (xs ++ ys) in
+      let whole : k + length xs + length ys ≡ place = omega (arith, length-append xs ys) in
+      let heavy : lag + weight + weights ≡ lag + (weight + weights) = omega arith in
+      subst (λ r. Changes k lag r place (lag + (weight + weights))) (sym (all_of-next run runs))
+      (then_does (At k lag) run (all_of runs) (λ done. At (k + length xs) (lag + weight)) (λ done. At place (lag + (weight + weights))) does
+      (subst (λ w. Changes (k + length xs) (lag + weight) (all_of runs) place w) heavy (subst (λ n. Changes (k + length xs) (lag + weight) (all_of runs) n (lag + weight + weights)) whole others)))

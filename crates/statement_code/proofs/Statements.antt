@@ -3,14 +3,14 @@ use Rattle.std.proofs.Common.{◌≡◌, ℕ, ◌+◌, ◌^◌, ◌<◌, ◌≤�
 use Rattle.source_runs.specs.declared.halt.Flow.{Flow}
 use Rattle.source_runs.specs.declared.halt.Flow.TheVariants.{Normal, Break, Continue, Return}
 use Rattle.source_runs.specs.Loops.{in_sequence}
-use Rattle.source_runs.specs.Runs.{Run, all_of, choosing, gives, ◌>>=◌, ◌>>◌}
+use Rattle.source_runs.specs.Runs.{Run, choosing, gives, ◌>>◌}
 use Rattle.typed_meaning.specs.Expressions.{Setting, Called}
 use Rattle.typed_meaning.specs.Statements.{return_meaning}
 use Rattle.rv_encode.specs.State.{Running}
 use Rattle.rv_encode.proofs.Leads.{leads_nowhere}
 use Rattle.ir_arena.specs.Tree as tree
 use Rattle.ir_arena.specs.Tree.{IrTree, IrTrees, end, more}
-use Rattle.tree_meaning.specs.Parts.{NodeMeaning, openings}
+use Rattle.tree_meaning.specs.Parts.{NodeMeaning}
 use Rattle.tree_meaning.specs.Trees.{node_meaning, node_meanings, statement_meaning, value_meaning}
 use Rattle.template_runs.specs.Machine.{StandHere}
 use Rattle.code_runs.specs.Doing.{Bond, Moves}
@@ -28,6 +28,7 @@ use Rattle.condition_code.specs.Laws.{weight_of_condition}
 use Rattle.statement_code.specs.Laws.{AreStatements, IsSimple, IsStatement, IsTest, Led, Targets, result_of, weight_of_statement, weight_of_statements}
 use Rattle.statement_code.specs.Code.{Part, choice, left_code, part_of, parts_of}
 use Rattle.statement_code.proofs.Parts.{IsDone, heavier, leaves, left_steady, no_parts, one_more, together}
+use Rattle.statement_code.proofs.Blocks.{block_done}
 use Rattle.statement_code.proofs.Choosing.{one_branch, two_branches}
 use Rattle.statement_code.proofs.Turns.{loop_done}
 
@@ -72,7 +73,7 @@ module _ (code : List ℕ) (l : Layout) (laid : IsLaidOut l) (here : Setting) (n
     steady = λ lag ways other. left_steady here.objects l near lag ways.left other.left;
   }
 
-  return_done : (value : IrTrees) → IsStatement l has_result (tree.Return value) → Done (tree.Return value)
+  return_done : (value : IrTrees) → IsStatement here.objects l has_result (tree.Return value) → Done (tree.Return value)
   unfolding return_meaning
   return_done end is = record {
     does = λ k lag ways targets small stands reached.
@@ -143,17 +144,6 @@ module _ (code : List ℕ) (l : Layout) (laid : IsLaidOut l) (here : Setting) (n
       one_more code here.turns l laid here near has_result (Part_of first) (statement_meaning here called first) (weight_of_statement first) (parts_of here.objects l near rest) (flows rest) (weight_of_statements rest) done.0
       (sequence_done rest done.1)
 
-  nothing_before : (run : Run Flow) → (all_of [] >> run) ≡ run
-  unfolding all_of ◌>>◌ ◌>>=◌
-  nothing_before run = refl
-
-  block_done : (first count : ℕ) (starts parts : IrTrees) → count ≡ 0 → AllDone parts → Done (tree.Block first count starts parts)
-  block_done first count starts parts none done =
-      let block = together code here.turns l laid here near has_result (parts_of here.objects l near parts) in
-      let weight = weight_of_statements parts in
-      subst (λ n. Good block (all_of (openings here n first (node_meanings here called starts)) >> in_sequence (flows parts)) weight) (sym none)
-      (subst (λ run. Good block run weight) (sym (nothing_before (in_sequence (flows parts)))) (sequence_done parts done))
-
   choice_done : (cond this : IrTree) (other : IrTrees) → IsTest l cond → Done this → AllDone other → Done (tree.If cond this other)
   choice_done cond this end test done others =
       let run = statement_meaning here called this in
@@ -174,20 +164,22 @@ module _ (code : List ℕ) (l : Layout) (laid : IsLaidOut l) (here : Setting) (n
   never part other simple = absurd (let f = simple.0 in let g = other in cc)
 
   mutual
-    pub statement_done : (tree : IrTree) → IsStatement l has_result tree → Done tree
+    pub statement_done : (tree : IrTree) → IsStatement here.objects l has_result tree → Done tree
     statement_done tree.Empty is = empty_done
-    statement_done (tree.Block first count starts parts) is = block_done first count starts parts is.0 (statements_done parts is.1)
+    statement_done (tree.Block first count starts parts) is =
+        block_done code l laid here near has_result called scalars count first starts (parts_of here.objects l near parts) (in_sequence (flows parts)) (weight_of_statements parts) is.0 (sequence_done parts (statements_done parts is.1))
     statement_done (tree.If cond this other) is = choice_done cond this other is.0 (statement_done this is.1.0) (statements_done other is.1.1)
     statement_done (tree.Loop cut tests_first first cond last body) is =
         loop_done code l laid here near has_result called scalars tests_first first cond last (Part_of body) (statement_meaning here called body) (weight_of_statement body) is.0 is.1.1.0 is.1.0 (statement_done body is.1.1.1)
     statement_done (tree.Leave again) is = leave_done again
     statement_done (tree.Return value) is = return_done value is
     statement_done (tree.Write target mark width site value) is = part_done (tree.Write target mark width site value) is
+    statement_done (tree.Step target up width site) is = part_done (tree.Step target up width site) is
     statement_done (tree.WriteFlag value) is = part_done (tree.WriteFlag value) is
     statement_done (tree.Out value) is = part_done (tree.Out value) is
     statement_done (tree.AddCount weight) is = part_done (tree.AddCount weight) is
     statement_done part is = never part refl is
 
-    statements_done : (parts : IrTrees) → AreStatements l has_result parts → AllDone parts
+    statements_done : (parts : IrTrees) → AreStatements here.objects l has_result parts → AllDone parts
     statements_done end is = tt {0}
     statements_done (more first rest) is = (statement_done first is.0, statements_done rest is.1)

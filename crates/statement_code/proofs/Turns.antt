@@ -9,19 +9,19 @@ use Rattle.source_runs.specs.declared.halt.Flow.{Flow}
 use Rattle.source_runs.specs.declared.halt.Flow.TheVariants.{Normal, Return}
 use Rattle.source_runs.specs.Loops.{looping, turns_of}
 use Rattle.source_runs.specs.Runs.{Run, all_of, gives, ◌>>◌}
-use Rattle.source_runs.proofs.Turning.{all_of-end, all_of-next}
 use Rattle.typed_meaning.specs.Expressions.{Setting, Called}
 use Rattle.typed_meaning.specs.Statements.{condition_or_one}
 use Rattle.rv_encode.specs.declared.instruction.Instr.{Instr}
 use Rattle.rv_encode.specs.State.{Running}
-use Rattle.rv_encode.proofs.Leads.{leads_nowhere}
 use Rattle.ir_arena.specs.Tree.{IrTree, IrTrees, Not, Binary, end, more}
 use Rattle.tree_meaning.specs.Parts.{NodeMeaning, loop_meaning}
 use Rattle.tree_meaning.specs.Trees.{node_meaning, node_meanings}
 use Rattle.template_runs.specs.Machine.{StandHere}
-use Rattle.code_jumps.specs.Jumps.{Reach, Test, Unequal, branch_code}
+use Rattle.code_lines.specs.Pieces.{flush_code}
+use Rattle.code_jumps.specs.Jumps.{Reach, Test, Unequal, branch_code, jump_where, reach_of, sensed}
+use Rattle.code_jumps.proofs.Branches.{same_length}
 use Rattle.code_runs.specs.Doing.{Bond, Does, DoesIn, one_of_two, one_where_it_holds}
-use Rattle.code_runs.proofs.Parts.{in_turn, later, moved, moves_on, nothing, one_of, turns_are}
+use Rattle.code_runs.proofs.Parts.{later, moved, moves_on, nothing, one_of, turns_are}
 use Rattle.code_runs.proofs.Steps.{leads_still}
 use Rattle.code_stacks.specs.Places.{Layout, IsLaidOut}
 use Rattle.code_stacks.specs.Operands.{fetches, operand_register}
@@ -30,12 +30,11 @@ use Rattle.expression_code.specs.Code.{expression_code, weight_of}
 use Rattle.expression_code.specs.Laws.{AreScalars}
 use Rattle.simple_code.specs.Code.{simple_code, weight_of_simple}
 use Rattle.simple_code.proofs.Simples.{simple_does}
-use Rattle.condition_code.specs.Code.{comparison_of, condition_code, flush_code, jump_where, placed_by, sensed, value_code, relation_code}
+use Rattle.condition_code.specs.Code.{comparison_of, condition_code, placed_by, value_code, relation_code}
 use Rattle.condition_code.proofs.Conditions.{condition_does}
-use Rattle.condition_code.proofs.Flushing.{same_length}
 use Rattle.statement_code.specs.Laws.{AreReached, AreSimple, AreTests, Targets, weight_of_tests}
-use Rattle.statement_code.specs.Code.{Exits, Part, entry_code, last_code, left_code, loop, nowhere, reach_of, simples_code, skip_code, test_code, turn_exits, turn_words, turns_code, weight_of_all, whole_code}
-use Rattle.statement_code.proofs.Parts.{At, Flows, IsDone, flush_moves, leaves, left_steady, stay, whole_done, whole_steady}
+use Rattle.statement_code.specs.Code.{Exits, Part, entry_code, last_code, left_code, loop, nowhere, simples_code, skip_code, test_code, turn_exits, turn_words, turns_code, weight_of_all, whole_code}
+use Rattle.statement_code.proofs.Parts.{At, Flows, IsDone, flush_moves, leaves, left_steady, no_change, one_change, stay, then_does, whole_done, whole_steady}
 use Rattle.statement_code.proofs.Choosing.{skips}
 
 -- ---- conditions have the same length at each distance
@@ -123,30 +122,14 @@ module _ (code : List ℕ) (l : Layout) (laid : IsLaidOut l) (here : Setting) (n
   abbrev lists : IrTrees → List Instr
   lists = simples_code here.objects l near
 
-  then_does : {A : Type 0} (before : Bond) (first : Run (Unit {0})) (next : Run A) (between : Unit {0} → Bond) (after : A → Bond) → Do before first between → Do (between tt) next after → Do before (first >> next) after
-  unfolding ◌>>◌
-  then_does before first next between after does does_next = in_turn code here.turns before first between (λ done. next) after does (λ done. does_next)
-
   pub simples_do : (parts : IrTrees) (k lag : ℕ) → AreSimple l parts → StandHere code k (lists parts) → Do (Stands k lag) (changes parts) (λ done. Stands (k + length (lists parts)) (lag + weight_of_all parts))
-  simples_do end k lag simple stands =
-      let none : k ≡ k + 0 = omega arith in
-      let light : lag ≡ lag + 0 = omega arith in
-      subst (λ run. Do (Stands k lag) run (λ done. Stands (k + 0) (lag + 0))) (sym all_of-end)
-      (nothing code here.turns (tt {0}) (Stands k lag) (λ done. Stands (k + 0) (lag + 0)) (λ s m at. (m, leads_nowhere code (Running m), subst (λ n. Stands (k + 0) n s m) light (subst (λ n. Stands n lag s m) none at))))
+  simples_do end k lag simple stands = no_change code here.turns l laid here near has_result k lag
   simples_do (more first rest) k lag simple stands =
       let xs = simple_code here.objects l first in
       let ys = lists rest in
-      let place = k + length (xs ++ ys) in
-      let weight = lag + (weight_of_simple first + weight_of_all rest) in
-      let whole : k + length xs + length ys ≡ place = omega (arith, length-append xs ys) in
-      let heavy : lag + weight_of_simple first + weight_of_all rest ≡ weight = omega arith in
-      let others : Do (Stands (k + length xs) (lag + weight_of_simple first)) (changes rest) (λ done. Stands place weight) =
-      subst (λ w. Do (Stands (k + length xs) (lag + weight_of_simple first)) (changes rest) (λ done. Stands place w)) heavy
-      (subst (λ n. Do (Stands (k + length xs) (lag + weight_of_simple first)) (changes rest) (λ done. Stands n (lag + weight_of_simple first + weight_of_all rest))) whole
-      (simples_do rest (k + length xs) (lag + weight_of_simple first) simple.1 (second_stands code k xs ys stands))) in
-      subst (λ run. Do (Stands k lag) run (λ done. Stands place weight)) (sym (all_of-next (node_meaning here called first).change (map (λ (part : NodeMeaning). part.change) (node_meanings here called rest))))
-      (then_does (Stands k lag) (node_meaning here called first).change (changes rest) (λ done. Stands (k + length xs) (lag + weight_of_simple first)) (λ done. Stands place weight)
-      (simple_does code here.turns l laid here called scalars first k lag simple.0.0 simple.0.1 (first_stands code k xs ys stands)) others)
+      one_change code here.turns l laid here near has_result xs ys (node_meaning here called first).change (map (λ (part : NodeMeaning). part.change) (node_meanings here called rest)) k lag (weight_of_simple first) (weight_of_all rest)
+      (simple_does code here.turns l laid here called scalars first k lag simple.0.0 simple.0.1 (first_stands code k xs ys stands))
+      (simples_do rest (k + length xs) (lag + weight_of_simple first) simple.1 (second_stands code k xs ys stands))
 
   -- ---- the test
 
@@ -298,7 +281,7 @@ module _ (code : List ℕ) (l : Layout) (laid : IsLaidOut l) (here : Setting) (n
         let run_of_loop = loop_meaning tests_first here.turns (tested cond) (changes last) run in
         let are : AreTurns cond last body run weight =
         record { good = good; simple = lasts; tests = conds; light = omega (arith, small); light_test = omega (arith, small); light_last = omega (arith, small) } in
-        then_does (Stands k lag) (changes first) run_of_loop (λ done. Stands (k + length xs) (lag + weight_of_all first)) (Ends targets place 0) (simples_do first k lag firsts (first_stands code k xs (flush ++ ts) stands))
+        then_does code here.turns l laid here near has_result (Stands k lag) (changes first) run_of_loop (λ done. Stands (k + length xs) (lag + weight_of_all first)) (Ends targets place 0) (simples_do first k lag firsts (first_stands code k xs (flush ++ ts) stands))
         (moved code here.turns (Stands (k + length xs) (lag + weight_of_all first)) (Stands begin 0) run_of_loop (Ends targets place 0)
         (flush_moves code here.turns l laid here near has_result (k + length xs) (lag + weight_of_all first) (omega (arith, small)) (first_stands code (k + length xs) flush ts later))
         (subst (λ e. Do (Stands begin 0) run_of_loop (Ends targets e 0)) whole

@@ -1,13 +1,15 @@
 -- The code of statements over scalars: what declares, changes, chooses, turns and leaves.
-use Rattle.std.specs.Prelude.{ℕ, ◌+◌, ℤ, pos, ◌+ℤ◌, ◌-ℤ◌, Bool, true, false, if◌then◌else◌, nat_lt, List, [], ◌∷◌, ◌++◌, length}
+use Rattle.std.specs.Prelude.{ℕ, ◌+◌, ℤ, pos, ◌+ℤ◌, ◌-ℤ◌, Bool, true, false, if◌then◌else◌, List, [], ◌∷◌, ◌++◌, length}
 use Rattle.operator_meaning.specs.declared.object.Object.{Object}
 use Rattle.rv_encode.specs.declared.instruction.Instr.{Instr}
 use Rattle.ir_arena.specs.Tree.{IrTree, IrTrees, Empty, Block, If, Loop, Leave, Return, end, more}
-use Rattle.code_jumps.specs.Jumps.{Reach, Short, Middle, Long, jump_code}
+use Rattle.code_lines.specs.Pieces.{flush_code}
+use Rattle.code_jumps.specs.Jumps.{past_code, reach_of}
 use Rattle.code_stacks.specs.Places.{Layout}
 use Rattle.expression_code.specs.Code.{expression_code, weight_of}
 use Rattle.simple_code.specs.Code.{simple_code, weight_of_simple}
-use Rattle.condition_code.specs.Code.{flush_code, condition_code}
+use Rattle.condition_code.specs.Code.{condition_code}
+use Rattle.statement_code.specs.Blocks.{Opening, openings_of, openings_code, weight_of_openings}
 
 -- ---- where statements lead
 
@@ -30,10 +32,6 @@ nowhere = record { again = pos 0; left = pos 0; returned = pos 0 }
 pub record Part : Type 0 where
   pub code : (lag : ℕ) → Exits → List Instr
   pub after : (lag : ℕ) → ℕ
-
--- so far reaches a branch by itself, and over a near jump; conditions have some words of their own
-abbrev pub reach_of : ℕ → Reach
-reach_of words = if nat_lt words 600 then Short else (if nat_lt words 200000 then Middle else Long)
 
 -- ---- several parts
 
@@ -61,7 +59,7 @@ module _ (objects : List Object) (l : Layout) (near : Bool) where
 
   -- a jump to so many words from its end, with the count brought up
   abbrev pub left_code : (lag : ℕ) → ℤ → List Instr
-  left_code lag distance = flush_code lag ++ jump_code near (pos (length (jump_code near distance)) +ℤ distance)
+  left_code lag distance = flush_code lag ++ past_code near distance
 
   -- a jump over so many words behind it
   abbrev pub skip_code : (words : ℕ) → List Instr
@@ -72,6 +70,15 @@ module _ (objects : List Object) (l : Layout) (near : Bool) where
   abbrev pub simples_code : IrTrees → List Instr
   simples_code end = []
   simples_code (more first rest) = simple_code objects l first ++ simples_code rest
+
+  -- ---- blocks
+
+  -- the objects start, and then come the statements
+  abbrev pub block_part : List Opening → List Part → Part
+  block_part openings parts = record {
+    code = λ lag exits. openings_code objects l openings ++ codes_along parts (lag + weight_of_openings openings) exits;
+    after = λ lag. lags_along parts (lag + weight_of_openings openings);
+  }
 
   -- ---- choices
 
@@ -133,7 +140,7 @@ module _ (objects : List Object) (l : Layout) (near : Bool) where
   abbrev mutual
     pub part_of : IrTree → Part
     part_of Empty = record { code = λ lag exits. []; after = λ lag. lag }
-    part_of (Block first count starts parts) = record { code = codes_along (parts_of parts); after = lags_along (parts_of parts) }
+    part_of (Block first count starts parts) = block_part (openings_of count first starts) (parts_of parts)
     part_of (If cond this other) = choice cond (part_of this) (parts_of other)
     part_of (Loop cut tests_first first cond last body) = loop tests_first first cond last (part_of body)
     part_of (Leave again) = record { code = λ lag exits. left_code lag (if again then exits.again else exits.left); after = λ lag. 0 }

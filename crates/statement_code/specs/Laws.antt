@@ -12,9 +12,9 @@ use Rattle.code_stacks.specs.Agreement.{With}
 use Rattle.expression_code.specs.Code.{weight_of}
 use Rattle.expression_code.specs.Laws.{AreScalars}
 use Rattle.expression_code.specs.Straight.{is_straight, height_of}
-use Rattle.simple_code.specs.Code.{is_simple, weight_of_simple}
-use Rattle.simple_code.specs.Laws.{height_of_simple}
+use Rattle.simple_code.specs.Code.{is_simple, weight_of_simple, height_of_simple}
 use Rattle.condition_code.specs.Laws.{height_of_condition, is_condition, weight_of_condition}
+use Rattle.statement_code.specs.Blocks.{AreOpenings, openings_of, weight_of_openings}
 use Rattle.statement_code.specs.Code.{Exits, part_of, statement_code, weight_of_all}
 
 -- ---- where statements lead
@@ -65,20 +65,19 @@ abbrev pub IsReturned : Layout → (has_result : Bool) → IrTrees → Type 0
 IsReturned l has_result end = has_result ≡ false
 IsReturned l has_result (more value rest) = (has_result ≡ true) × ((is_straight l value ≡ true) × (height_of value ≤ l.depth))
 
--- blocks start no objects
 abbrev mutual
-  pub IsStatement : Layout → (has_result : Bool) → IrTree → Type 0
-  IsStatement l has_result Empty = Unit {0}
-  IsStatement l has_result (Block first count starts parts) = (count ≡ 0) × AreStatements l has_result parts
-  IsStatement l has_result (If cond this other) = IsTest l cond × (IsStatement l has_result this × AreStatements l has_result other)
-  IsStatement l has_result (Loop cut tests_first first cond last body) = AreSimple l first × (AreTests l cond × (AreSimple l last × IsStatement l has_result body))
-  IsStatement l has_result (Leave again) = Unit {0}
-  IsStatement l has_result (Return value) = IsReturned l has_result value
-  IsStatement l has_result simple = IsSimple l simple
+  pub IsStatement : List Object → Layout → (has_result : Bool) → IrTree → Type 0
+  IsStatement objects l has_result Empty = Unit {0}
+  IsStatement objects l has_result (Block first count starts parts) = AreOpenings objects l (openings_of count first starts) × AreStatements objects l has_result parts
+  IsStatement objects l has_result (If cond this other) = IsTest l cond × (IsStatement objects l has_result this × AreStatements objects l has_result other)
+  IsStatement objects l has_result (Loop cut tests_first first cond last body) = AreSimple l first × (AreTests l cond × (AreSimple l last × IsStatement objects l has_result body))
+  IsStatement objects l has_result (Leave again) = Unit {0}
+  IsStatement objects l has_result (Return value) = IsReturned l has_result value
+  IsStatement objects l has_result simple = IsSimple l simple
 
-  pub AreStatements : Layout → (has_result : Bool) → IrTrees → Type 0
-  AreStatements l has_result end = Unit {0}
-  AreStatements l has_result (more first rest) = IsStatement l has_result first × AreStatements l has_result rest
+  pub AreStatements : List Object → Layout → (has_result : Bool) → IrTrees → Type 0
+  AreStatements objects l has_result end = Unit {0}
+  AreStatements objects l has_result (more first rest) = IsStatement objects l has_result first × AreStatements objects l has_result rest
 
 -- ---- all that they may weigh, each turn by itself
 
@@ -93,7 +92,7 @@ weight_of_returned (more value rest) = weight_of value
 abbrev mutual
   pub weight_of_statement : IrTree → ℕ
   weight_of_statement Empty = 0
-  weight_of_statement (Block first count starts parts) = weight_of_statements parts
+  weight_of_statement (Block first count starts parts) = weight_of_openings (openings_of count first starts) + weight_of_statements parts
   weight_of_statement (If cond this other) = weight_of_condition cond + weight_of_statement this + weight_of_statements other
   weight_of_statement (Loop cut tests_first first cond last body) = weight_of_all first + weight_of_tests cond + weight_of_all last + weight_of_statement body
   weight_of_statement (Leave again) = 0
@@ -109,7 +108,7 @@ abbrev mutual
 -- From its first word, with nothing on the stack, the code does what the statement does, and leads where that leads.
 abbrev pub StatementsAreDone : Type 0
 StatementsAreDone = (code : List ℕ) (l : Layout) (here : Setting) (called : Called) (near has_result : Bool) (tree : IrTree) (k lag : ℕ) (ways : Exits) (targets : Targets)
-    → IsLaidOut l → AreScalars here.objects l → IsStatement l has_result tree → lag + weight_of_statement tree < 2 ^ 31
+    → IsLaidOut l → AreScalars here.objects l → IsStatement here.objects l has_result tree → lag + weight_of_statement tree < 2 ^ 31
     → StandHere code k (statement_code here.objects l near tree lag ways) → AreReached (k + length (statement_code here.objects l near tree lag ways)) ways targets
     → Does code here.turns (With here.objects l k lag []) (statement_meaning here called tree)
     (Led here.objects l has_result targets (k + length (statement_code here.objects l near tree lag ways)) ((part_of here.objects l near tree).after lag))

@@ -1,53 +1,17 @@
--- The count is brought up, and two registers are compared.
-use Rattle.std.proofs.Common.{◌≡◌, ◌≢◌, ℕ, zero, suc, ◌+◌, ◌*◌, ◌%◌, ◌^◌, ◌<◌, ℤ, pos, Bool, true, false, not, ◌==◌, nat_lt, List, [], ◌∷◌, ◌++◌, length, refl, sym, ap, ◌∙◌, subst, arith}
-use Rattle.std.specs.Prelude.{FitsSigned, int_lt}
+-- The count is brought up.
+use Rattle.std.proofs.Common.{◌≡◌, ℕ, zero, suc, ◌+◌, ◌*◌, ◌%◌, ◌^◌, ◌<◌, ℤ, pos, Bool, true, false, nat_lt, List, [], ◌∷◌, ◌++◌, length, refl, sym, ap, ◌∙◌, subst, arith}
+use Rattle.std.specs.Prelude.{FitsSigned}
 use Rattle.std.specs.Int.{w32, cast_unsigned}
-use Rattle.std.specs.Ordering.{int_eq}
-use Rattle.std.proofs.lemmas.Bool.Decides.{nat_tests}
 use Rattle.std.proofs.lemmas.Int.{ints}
 use Rattle.rv_encode.specs.declared.instruction.Instr.TheVariants.{Add, Sltu}
 use Rattle.rv_encode.specs.State.{MachineState, Running, register}
 use Rattle.rv_encode.specs.Runs.{Leads}
 use Rattle.rv_encode.proofs.Leads.{leads_nowhere}
 use Rattle.template_runs.specs.Machine.{StandHere, IsBefore}
-use Rattle.code_jumps.specs.Jumps.{Test, Equal, Unequal, Less, NotLess, passes, opposite, Reach, Short, Middle, Long, branch_code}
 use Rattle.code_lines.specs.Lines.{file_after, is_line}
-use Rattle.code_lines.specs.Pieces.{count_code, count_line, number_line, is_near, count_in, HasHalves, IsNoCount}
+use Rattle.code_lines.specs.Pieces.{flush_code, count_code, count_line, number_line, is_near, count_in, HasHalves, IsNoCount}
 use Rattle.code_lines.proofs.Lines.{lines_run}
 use Rattle.code_lines.proofs.Pieces.{counts_are_added}
-use Rattle.condition_code.specs.Code.{flush_code, sensed}
-use Rattle.condition_code.specs.Laws.{met}
-
-pub unequal : (a b : ℕ) → (a == b) ≡ false → a ≢ b
-unequal a b apart e = grind (arith, nat_tests)
-
--- ---- tests
-
-opposed : (test : Test) (a b : ℤ) → passes (opposite test) a b ≡ not (passes test a b)
-opposed Equal a b = refl
-opposed Unequal a b = twice (int_eq a b)
-  where
-    twice : (x : Bool) → x ≡ not (not x)
-    twice true = refl
-    twice false = refl
-opposed Less a b = refl
-opposed NotLess a b = twice (int_lt a b)
-  where
-    twice : (x : Bool) → x ≡ not (not x)
-    twice true = refl
-    twice false = refl
-
-pub sensed_passes : (sense : Bool) (test : Test) (a b : ℤ) → passes (sensed sense test) a b ≡ met sense (passes test a b)
-sensed_passes true test a b = refl
-sensed_passes false test a b = opposed test a b
-
--- a branch has the same length at any distance
-pub same_length : (reach : Reach) (test : Test) (rs1 rs2 : ℕ) (one other : ℤ) → length (branch_code reach test rs1 rs2 one) ≡ length (branch_code reach test rs1 rs2 other)
-same_length Short test rs1 rs2 one other = refl
-same_length Middle test rs1 rs2 one other = refl
-same_length Long test rs1 rs2 one other = refl
-
--- ---- the count
 
 count_lines : (near : Bool) (weight : ℕ) → is_line (count_line near weight) ≡ true
 count_lines true weight = refl
@@ -67,7 +31,7 @@ pub record IsFlushed (k weight : ℕ) (t u : MachineState) : Type 0 where
   pub input : u.input ≡ t.input
   pub output : u.output ≡ t.output
 
-no_weight : (high low : ℤ) → FitsSigned w32 high → FitsSigned w32 low → cast_unsigned w32 high * 2 ^ 32 + cast_unsigned w32 low ≡ (cast_unsigned w32 high * 2 ^ 32 + cast_unsigned w32 low + 0) % 2 ^ 64
+pub no_weight : (high low : ℤ) → FitsSigned w32 high → FitsSigned w32 low → cast_unsigned w32 high * 2 ^ 32 + cast_unsigned w32 low ≡ (cast_unsigned w32 high * 2 ^ 32 + cast_unsigned w32 low + 0) % 2 ^ 64
 no_weight high low fits fits2 = grind (arith, ints)
 
 pub flushed : (code : List ℕ) (k weight : ℕ) (t : MachineState) → weight < 2 ^ 31 → StandHere code k (flush_code weight) → IsBefore k t → HasHalves (register t)
