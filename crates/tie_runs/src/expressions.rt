@@ -3,7 +3,7 @@
 use c_tree::{BinaryMark, UnaryMark};
 use c_typed::{Callee, TypedArg, TypedCall, TypedExpr, TypedExprKind, TypedPlace};
 use sat_base::Width;
-use std::alloc::{AllocError, Global};
+use written_text::{Written, push_number, push_numbered, push_word};
 
 pub fn bits(width: Width) -> u32 {
     match width {
@@ -12,10 +12,9 @@ pub fn bits(width: Width) -> u32 {
     }
 }
 
-pub fn site(alloc: Global, number: Option<u32>) -> Result<String, AllocError> {
-    match number {
-        Some(number) => format!(in alloc; "#{number}"),
-        None => String::from_str(alloc, ""),
+pub fn site(out: &mut Written, number: Option<u32>) {
+    if let Some(number) = number {
+        push_numbered(out, "#", number);
     }
 }
 
@@ -47,53 +46,63 @@ fn binary(mark: BinaryMark) -> &'static str {
     }
 }
 
-fn callee(alloc: Global, called: Callee) -> Result<String, AllocError> {
+fn callee(out: &mut Written, called: Callee) {
     match called {
-        Callee::Function(number) => format!(in alloc; "f{number}"),
-        Callee::Operator(op) => String::from_str(alloc, operator_meaning::name(op)),
-        Callee::Move16 => String::from_str(alloc, "move16"),
-        Callee::Move32 => String::from_str(alloc, "move32"),
-        Callee::Logic16 => String::from_str(alloc, "logic16"),
-        Callee::Logic32 => String::from_str(alloc, "logic32"),
-        Callee::Test => String::from_str(alloc, "test"),
-        Callee::SampleIn => String::from_str(alloc, "sample_in"),
-        Callee::SampleLeft => String::from_str(alloc, "sample_left"),
-        Callee::SampleOut => String::from_str(alloc, "sample_out"),
+        Callee::Function(number) => push_numbered(out, "f", number),
+        Callee::Operator(op) => push_word(out, operator_meaning::name(op)),
+        Callee::Move16 => push_word(out, "move16"),
+        Callee::Move32 => push_word(out, "move32"),
+        Callee::Logic16 => push_word(out, "logic16"),
+        Callee::Logic32 => push_word(out, "logic32"),
+        Callee::Test => push_word(out, "test"),
+        Callee::SampleIn => push_word(out, "sample_in"),
+        Callee::SampleLeft => push_word(out, "sample_left"),
+        Callee::SampleOut => push_word(out, "sample_out"),
     }
+}
+
+/// A mark, the token that it stands at, and its site.
+pub fn marked(out: &mut Written, mark: &str, at: u32, number: Option<u32>) {
+    push_word(out, mark);
+    push_numbered(out, "@", at);
+    site(out, number);
+    push_word(out, " ");
 }
 
 /// An expression: its first token, a `'` for each pair of brackets, and what stands in them.
 #[cycle(expression)]
-pub fn expression(alloc: Global, e: &TypedExpr) -> Result<String, AllocError> {
-    let at = e.at.tok;
-    let inside = kind(alloc, &e.kind)?;
-    if e.brackets == 0 {
-        return format!(in alloc; "{at}:{inside}");
+pub fn expression(out: &mut Written, e: &TypedExpr) {
+    push_numbered(out, "", e.at.tok);
+    if e.brackets != 0 {
+        push_numbered(out, "'", e.brackets);
     }
-    let brackets = e.brackets;
-    format!(in alloc; "{at}'{brackets}:{inside}")
+    push_word(out, ":");
+    kind(out, &e.kind)
+}
+
+/// A part of an expression, between two words.
+#[cycle(expression)]
+fn part_between(out: &mut Written, before: &str, part: &TypedExpr, after: &str) {
+    push_word(out, before);
+    expression(out, part);
+    push_word(out, after)
 }
 
 #[cycle(expression)]
-fn kind(alloc: Global, inside: &TypedExprKind) -> Result<String, AllocError> {
+fn kind(out: &mut Written, inside: &TypedExprKind) {
     match inside {
-        TypedExprKind::Int(value) => format!(in alloc; "{value}"),
-        TypedExprKind::Read(read) => place(alloc, read.get()),
-        TypedExprKind::ReadOverflow { word_at } => {
-            let at = word_at.tok;
-            format!(in alloc; "Overflow@{at}")
-        },
+        TypedExprKind::Int(value) => push_number(out, i64::from(*value)),
+        TypedExprKind::Read(read) => place(out, read.get()),
+        TypedExprKind::ReadOverflow { word_at } => push_numbered(out, "Overflow@", word_at.tok),
         TypedExprKind::Unary {
             mark,
             mark_at,
             site: number,
             part,
         } => {
-            let mark = unary(*mark);
-            let at = mark_at.tok;
-            let number = site(alloc, *number)?;
-            let part = expression(alloc, part.get())?;
-            format!(in alloc; "({mark}@{at}{number} {part})")
+            push_word(out, "(");
+            marked(out, unary(*mark), mark_at.tok, *number);
+            part_between(out, "", part.get(), ")")
         },
         TypedExprKind::Binary {
             mark,
@@ -102,57 +111,51 @@ fn kind(alloc: Global, inside: &TypedExprKind) -> Result<String, AllocError> {
             left,
             right,
         } => {
-            let mark = binary(*mark);
-            let at = mark_at.tok;
-            let number = site(alloc, *number)?;
-            let left = expression(alloc, left.get())?;
-            let right = expression(alloc, right.get())?;
-            format!(in alloc; "({left} {mark}@{at}{number} {right})")
+            part_between(out, "(", left.get(), " ");
+            marked(out, binary(*mark), mark_at.tok, *number);
+            part_between(out, "", right.get(), ")")
         },
         TypedExprKind::Cast { width, part } => {
-            let width = bits(*width);
-            let part = expression(alloc, part.get())?;
-            format!(in alloc; "cast{width}({part})")
+            push_numbered(out, "cast", bits(*width));
+            part_between(out, "(", part.get(), ")")
         },
         TypedExprKind::Convert { width, part } => {
-            let width = bits(*width);
-            let part = expression(alloc, part.get())?;
-            format!(in alloc; "to{width}({part})")
+            push_numbered(out, "to", bits(*width));
+            part_between(out, "(", part.get(), ")")
         },
         TypedExprKind::Choose { cond, yes, no } => {
-            let cond = expression(alloc, cond.get())?;
-            let yes = expression(alloc, yes.get())?;
-            let no = expression(alloc, no.get())?;
-            format!(in alloc; "({cond} ? {yes} : {no})")
+            part_between(out, "(", cond.get(), " ? ");
+            expression(out, yes.get());
+            part_between(out, " : ", no.get(), ")")
         },
-        TypedExprKind::Call(called) => call(alloc, called),
+        TypedExprKind::Call(called) => call(out, called),
     }
+}
+
+fn object(out: &mut Written, number: u32, at: u32) {
+    push_numbered(out, "o", number);
+    push_numbered(out, "@", at);
 }
 
 /// A place, whose object goes by its number.
 #[cycle(expression)]
-pub fn place(alloc: Global, named: &TypedPlace) -> Result<String, AllocError> {
+pub fn place(out: &mut Written, named: &TypedPlace) {
     match named {
-        TypedPlace::Plain { at, object } => {
-            let at = at.tok;
-            format!(in alloc; "o{object}@{at}")
-        },
+        TypedPlace::Plain { at, object: named } => object(out, *named, at.tok),
         TypedPlace::Index {
             at,
-            object,
+            object: named,
             mark_at,
             site: number,
             index,
         } => {
-            let at = at.tok;
-            let mark = mark_at.tok;
-            let number = site(alloc, *number)?;
-            let index = expression(alloc, index.get())?;
-            format!(in alloc; "o{object}@{at}[@{mark}{number} {index}]")
+            object(out, *named, at.tok);
+            marked(out, "[", mark_at.tok, *number);
+            part_between(out, "", index.get(), "]")
         },
         TypedPlace::Index2 {
             at,
-            object,
+            object: named,
             first_at,
             first_site,
             first,
@@ -160,52 +163,45 @@ pub fn place(alloc: Global, named: &TypedPlace) -> Result<String, AllocError> {
             second_site,
             second,
         } => {
-            let at = at.tok;
-            let first_at = first_at.tok;
-            let first_site = site(alloc, *first_site)?;
-            let first = expression(alloc, first.get())?;
-            let second_at = second_at.tok;
-            let second_site = site(alloc, *second_site)?;
-            let second = expression(alloc, second.get())?;
-            let row = format!(in alloc; "[@{first_at}{first_site} {first}]")?;
-            format!(in alloc; "o{object}@{at}{row}[@{second_at}{second_site} {second}]")
+            object(out, *named, at.tok);
+            marked(out, "[", first_at.tok, *first_site);
+            part_between(out, "", first.get(), "]");
+            marked(out, "[", second_at.tok, *second_site);
+            part_between(out, "", second.get(), "]")
         },
         TypedPlace::Deref {
             star_at,
             site: number,
             at,
-            object,
+            object: named,
         } => {
-            let at = at.tok;
-            let star = star_at.tok;
-            let number = site(alloc, *number)?;
-            format!(in alloc; "*@{star}{number} o{object}@{at}")
+            marked(out, "*", star_at.tok, *number);
+            object(out, *named, at.tok)
         },
     }
 }
 
 #[cycle(expression)]
-pub fn call(alloc: Global, called: &TypedCall) -> Result<String, AllocError> {
-    let at = called.at.tok;
-    let name = callee(alloc, called.callee)?;
-    let number = site(alloc, called.site)?;
-    let mut text = format!(in alloc; "{name}@{at}{number}(")?;
+pub fn call(out: &mut Written, called: &TypedCall) {
+    callee(out, called.callee);
+    push_numbered(out, "@", called.at.tok);
+    site(out, called.site);
+    push_word(out, "(");
     for arg in called.args.as_slice() {
-        text.push_str(argument(alloc, arg)?.as_str())?;
-        text.push_str(";")?;
+        argument(out, arg);
+        push_word(out, ";");
     }
-    text.push_str(")")?;
-    Ok(text)
+    push_word(out, ")")
 }
 
 #[cycle(expression)]
-pub fn argument(alloc: Global, arg: &TypedArg) -> Result<String, AllocError> {
+pub fn argument(out: &mut Written, arg: &TypedArg) {
     match arg {
-        TypedArg::Value(value) => expression(alloc, value),
+        TypedArg::Value(value) => expression(out, value),
         TypedArg::Address { at, place: given } => {
-            let at = at.tok;
-            let given = place(alloc, given)?;
-            format!(in alloc; "&@{at} {given}")
+            push_numbered(out, "&@", at.tok);
+            push_word(out, " ");
+            place(out, given)
         },
     }
 }

@@ -14,6 +14,7 @@ use sat_base::limits::SOURCE_BYTES;
 use std::alloc::{AllocError, Global};
 use std::io;
 use std::io::{BufRead, BufReader};
+use written_text::{nothing_written, whole_text};
 
 fn answer_to(alloc: Global, text: &[u8]) -> Result<String, AllocError> {
     if text.len() > SOURCE_BYTES {
@@ -26,7 +27,11 @@ fn answer_to(alloc: Global, text: &[u8]) -> Result<String, AllocError> {
         return String::from_str(alloc, "no program");
     };
     match typed(alloc, &program) {
-        Ok(whole) => objects::source(alloc, &whole),
+        Ok(whole) => {
+            let mut out = nothing_written(alloc);
+            objects::source(&mut out, &whole);
+            whole_text(out)
+        },
         Err(fault) => {
             let line = fault.pos.line;
             let col = fault.pos.col;

@@ -5,137 +5,144 @@ use crate::statements::block;
 use c_typed::{Typed, TypedFunction};
 use operator_meaning::{Object, Site, SiteKind, Storage};
 use sat_base::Width;
-use std::alloc::{AllocError, Global};
+use written_text::{Written, push_number, push_numbered, push_word};
 
-fn text_of(alloc: Global, name: &[u8]) -> Result<String, AllocError> {
+fn push_name(out: &mut Written, name: &[u8]) {
     match str::from_utf8(name) {
-        Ok(text) => String::from_str(alloc, text),
-        Err(_) => String::from_str(alloc, "?"),
+        Ok(text) => push_word(out, text),
+        Err(_) => push_word(out, "?"),
     }
 }
 
-fn flags(object: &Object) -> (&'static str, &'static str, &'static str, &'static str) {
-    (
+fn flags(out: &mut Written, object: &Object) {
+    push_word(
+        out,
         match object.storage {
             Storage::Static => "S",
             Storage::Automatic => "A",
             Storage::Parameter => "P",
         },
-        if object.view { "v" } else { "" },
-        if object.is_const { "c" } else { "" },
-        if object.exposed { "e" } else { "" },
-    )
+    );
+    push_word(out, if object.view { "v" } else { "" });
+    push_word(out, if object.is_const { "c" } else { "" });
+    push_word(out, if object.exposed { "e" } else { "" });
 }
 
 /// Values, where one that stands several times in a row is told once with their number.
-fn values(alloc: Global, values: &[i32]) -> Result<String, AllocError> {
-    let mut text = String::new(alloc);
+fn values(out: &mut Written, values: &[i32]) {
     let mut last = 0;
-    let mut times: usize = 0;
+    let mut times: u32 = 0;
     for value in values {
-        if times > 0 && *value == last && times < usize::MAX {
+        if times > 0 && *value == last && times < u32::MAX {
             times += 1;
         } else {
-            if times > 0 {
-                text.push_str(format!(in alloc; "{last}x{times},")?.as_str())?;
-            }
+            repeated(out, last, times);
             last = *value;
             times = 1;
         }
     }
+    repeated(out, last, times);
+}
+
+fn repeated(out: &mut Written, value: i32, times: u32) {
     if times > 0 {
-        text.push_str(format!(in alloc; "{last}x{times},")?.as_str())?;
+        push_number(out, i64::from(value));
+        push_numbered(out, "x", times);
+        push_word(out, ",");
     }
-    Ok(text)
 }
 
-fn object(alloc: Global, one: &Object) -> Result<String, AllocError> {
-    let name = text_of(alloc, one.name.as_bytes())?;
-    let width = bits(one.width);
-    let rows = one.rows;
-    let columns = one.columns;
-    let (storage, view, is_const, exposed) = flags(one);
-    let function = match one.function {
-        Some(number) => format!(in alloc; "@f{number}")?,
-        None => String::from_str(alloc, "")?,
-    };
-    let initial = match &one.initial {
-        Some(listed) => values(alloc, listed.as_slice())?,
-        None => String::from_str(alloc, "-")?,
-    };
-    let kind = format!(in alloc; "{storage}{view}{is_const}{exposed}{function}")?;
-    format!(in alloc; "{name}:{width}[{rows},{columns}]{kind}={initial}")
+fn object(out: &mut Written, one: &Object) {
+    push_name(out, one.name.as_bytes());
+    push_numbered(out, ":", bits(one.width));
+    push_numbered(out, "[", one.rows);
+    push_numbered(out, ",", one.columns);
+    push_word(out, "]");
+    flags(out, one);
+    if let Some(number) = one.function {
+        push_numbered(out, "@f", number);
+    }
+    push_word(out, "=");
+    match &one.initial {
+        Some(listed) => values(out, listed.as_slice()),
+        None => push_word(out, "-"),
+    }
 }
 
-fn gives(alloc: Global, width: Option<Width>) -> Result<String, AllocError> {
+fn gives(out: &mut Written, width: Option<Width>) {
     match width {
-        Some(width) => {
-            let width = bits(width);
-            format!(in alloc; "{width}")
-        },
-        None => String::from_str(alloc, "void"),
+        Some(width) => push_numbered(out, ":", bits(width)),
+        None => push_word(out, ":void"),
     }
 }
 
-fn function(alloc: Global, one: &TypedFunction) -> Result<String, AllocError> {
-    let name = text_of(alloc, one.name.as_bytes())?;
-    let width = gives(alloc, one.gives)?;
-    let mut text = format!(in alloc; "{name}:{width}")?;
+fn function(out: &mut Written, one: &TypedFunction) {
+    push_name(out, one.name.as_bytes());
+    gives(out, one.gives);
     if let Some(at) = one.defined {
-        let at = at.tok;
-        text.push_str(format!(in alloc; "@{at}")?.as_str())?;
+        push_numbered(out, "@", at.tok);
     }
-    text.push_str("(")?;
+    push_word(out, "(");
     for param in one.params.as_slice() {
-        text.push_str(format!(in alloc; "o{param};")?.as_str())?;
+        push_numbered(out, "o", *param);
+        push_word(out, ";");
     }
-    text.push_str(")")?;
+    push_word(out, ")");
     match &one.body {
-        Some(body) => text.push_str(block(alloc, body)?.as_str())?,
-        None => text.push_str("-")?,
+        Some(body) => block(out, body),
+        None => push_word(out, "-"),
     }
-    Ok(text)
 }
 
-fn site(alloc: Global, one: &Site) -> Result<String, AllocError> {
-    let tok = one.tok;
-    let line = one.pos.line;
-    let col = one.pos.col;
-    let kind = match one.kind {
-        SiteKind::Call(op) => String::from_str(alloc, operator_meaning::name(op))?,
-        SiteKind::Sum => String::from_str(alloc, "+")?,
-        SiteKind::Difference => String::from_str(alloc, "-")?,
-        SiteKind::Product => String::from_str(alloc, "*")?,
-        SiteKind::Opposite => String::from_str(alloc, "opposite")?,
-        SiteKind::Bound(length) => format!(in alloc; "bound{length}")?,
-        SiteKind::ViewBound => String::from_str(alloc, "view")?,
-        SiteKind::ViewEdge => String::from_str(alloc, "edge")?,
-        SiteKind::Sample => String::from_str(alloc, "sample")?,
-    };
-    format!(in alloc; "{tok}@{line}:{col} {kind}")
+fn site(out: &mut Written, one: &Site) {
+    push_numbered(out, "", one.tok);
+    push_numbered(out, "@", one.pos.line);
+    push_numbered(out, ":", one.pos.col);
+    push_word(out, " ");
+    match one.kind {
+        SiteKind::Call(op) => push_word(out, operator_meaning::name(op)),
+        SiteKind::Sum => push_word(out, "+"),
+        SiteKind::Difference => push_word(out, "-"),
+        SiteKind::Product => push_word(out, "*"),
+        SiteKind::Opposite => push_word(out, "opposite"),
+        SiteKind::Bound(length) => push_numbered(out, "bound", length),
+        SiteKind::ViewBound => push_word(out, "view"),
+        SiteKind::ViewEdge => push_word(out, "edge"),
+        SiteKind::Sample => push_word(out, "sample"),
+    }
+}
+
+fn objects(out: &mut Written, list: &[Object]) {
+    for one in list {
+        object(out, one);
+        push_word(out, " ");
+    }
+}
+
+fn functions(out: &mut Written, list: &[TypedFunction]) {
+    for one in list {
+        function(out, one);
+        push_word(out, " ");
+    }
+}
+
+fn sites(out: &mut Written, list: &[Site]) {
+    for one in list {
+        site(out, one);
+        push_word(out, ", ");
+    }
 }
 
 /// The whole source.
-pub fn source(alloc: Global, whole: &Typed) -> Result<String, AllocError> {
-    let mut text = String::new(alloc);
-    for one in whole.objects.as_slice() {
-        text.push_str(object(alloc, one)?.as_str())?;
-        text.push_str(" ")?;
-    }
-    for one in whole.functions.as_slice() {
-        text.push_str(function(alloc, one)?.as_str())?;
-        text.push_str(" ")?;
-    }
-    text.push_str("sites ")?;
-    for one in whole.sites.as_slice() {
-        text.push_str(site(alloc, one)?.as_str())?;
-        text.push_str(", ")?;
-    }
-    text.push_str("constants ")?;
+pub fn source(out: &mut Written, whole: &Typed) {
+    objects(out, whole.objects.as_slice());
+    functions(out, whole.functions.as_slice());
+    push_word(out, "sites ");
+    sites(out, whole.sites.as_slice());
+    push_word(out, "constants ");
     for value in whole.constants.as_slice() {
-        text.push_str(format!(in alloc; "{value},")?.as_str())?;
+        push_number(out, i64::from(*value));
+        push_word(out, ",");
     }
-    let weights = whole.weights;
-    text.push_str(format!(in alloc; " weights {weights}")?.as_str())?;
-    Ok(text)
+    push_numbered(out, " weights ", whole.weights);
 }

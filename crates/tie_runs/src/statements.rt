@@ -1,10 +1,10 @@
 // Tied statements as text.
 
-use crate::expressions::{argument, call, expression, place, site};
+use crate::expressions::{argument, call, expression, marked, place, site};
 use c_tree::AssignMark;
 use c_typed::{Start, TypedBlock, TypedExpr, TypedSimple, TypedStmt};
 use sqlite_items::Boxed;
-use std::alloc::{AllocError, Global};
+use written_text::{Written, push_numbered, push_word};
 
 fn mark(mark: AssignMark) -> &'static str {
     match mark {
@@ -18,7 +18,7 @@ fn mark(mark: AssignMark) -> &'static str {
     }
 }
 
-fn simple(alloc: Global, one: &TypedSimple) -> Result<String, AllocError> {
+fn simple(out: &mut Written, one: &TypedSimple) {
     match one {
         TypedSimple::Assign {
             at,
@@ -28,13 +28,12 @@ fn simple(alloc: Global, one: &TypedSimple) -> Result<String, AllocError> {
             site: number,
             value,
         } => {
-            let at = at.tok;
-            let target = place(alloc, target.get())?;
-            let sign = mark(*sign);
-            let mark_at = mark_at.tok;
-            let number = site(alloc, *number)?;
-            let value = expression(alloc, value.get())?;
-            format!(in alloc; "{at}:{target} {sign}@{mark_at}{number} {value}")
+            push_numbered(out, "", at.tok);
+            push_word(out, ":");
+            place(out, target.get());
+            push_word(out, " ");
+            marked(out, mark(*sign), mark_at.tok, *number);
+            expression(out, value.get())
         },
         TypedSimple::Step {
             at,
@@ -43,92 +42,97 @@ fn simple(alloc: Global, one: &TypedSimple) -> Result<String, AllocError> {
             mark_at,
             site: number,
         } => {
-            let at = at.tok;
-            let target = place(alloc, target.get())?;
-            let sign = if *up { "++" } else { "--" };
-            let mark_at = mark_at.tok;
-            let number = site(alloc, *number)?;
-            format!(in alloc; "{at}:{target} {sign}@{mark_at}{number}")
+            push_numbered(out, "", at.tok);
+            push_word(out, ":");
+            place(out, target.get());
+            push_word(out, if *up { " ++" } else { " --" });
+            push_numbered(out, "@", mark_at.tok);
+            site(out, *number)
         },
         TypedSimple::SetOverflow { at, value } => {
-            let at = at.tok;
-            let value = expression(alloc, value.get())?;
-            format!(in alloc; "Overflow@{at} = {value}")
+            push_numbered(out, "Overflow@", at.tok);
+            push_word(out, " = ");
+            expression(out, value.get())
         },
-        TypedSimple::Call(called) => call(alloc, called),
+        TypedSimple::Call(called) => call(out, called),
     }
 }
 
-fn simples(alloc: Global, list: &[TypedSimple]) -> Result<String, AllocError> {
-    let mut text = String::new(alloc);
+fn simples(out: &mut Written, list: &[TypedSimple]) {
     for one in list {
-        text.push_str(simple(alloc, one)?.as_str())?;
-        text.push_str(",")?;
+        simple(out, one);
+        push_word(out, ",");
     }
-    Ok(text)
 }
 
-fn if_any(alloc: Global, e: &Option<Boxed<TypedExpr>>) -> Result<String, AllocError> {
+fn if_any(out: &mut Written, e: &Option<Boxed<TypedExpr>>) {
     match e {
-        Some(e) => expression(alloc, e.get()),
-        None => String::from_str(alloc, "-"),
+        Some(e) => expression(out, e.get()),
+        None => push_word(out, "-"),
     }
 }
 
-fn start(alloc: Global, begun: &Start) -> Result<String, AllocError> {
-    let object = begun.object;
-    match &begun.value {
-        Some(value) => {
-            let value = argument(alloc, value)?;
-            format!(in alloc; "o{object}={value};")
-        },
-        None => format!(in alloc; "o{object};"),
+fn start(out: &mut Written, begun: &Start) {
+    push_numbered(out, "o", begun.object);
+    if let Some(value) = &begun.value {
+        push_word(out, "=");
+        argument(out, value);
     }
+    push_word(out, ";")
 }
 
 #[cycle(statement)]
-pub fn block(alloc: Global, whole: &TypedBlock) -> Result<String, AllocError> {
-    let at = whole.at.tok;
-    let mut text = format!(in alloc; "{{@{at} ")?;
-    for begun in whole.objects.as_slice() {
-        text.push_str(start(alloc, begun)?.as_str())?;
-    }
-    text.push_str("|")?;
+pub fn block(out: &mut Written, whole: &TypedBlock) {
+    head(out, "{", whole.at.tok);
+    starts(out, whole.objects.as_slice());
+    push_word(out, "|");
     for stmt in whole.stmts.as_slice() {
-        text.push_str(statement(alloc, stmt)?.as_str())?;
-        text.push_str(";")?;
+        statement(out, stmt);
+        push_word(out, ";");
     }
-    text.push_str("}")?;
-    Ok(text)
+    push_word(out, "}")
+}
+
+fn starts(out: &mut Written, list: &[Start]) {
+    for begun in list {
+        start(out, begun);
+    }
+}
+
+/// A word with its token, before what follows.
+fn head(out: &mut Written, name: &str, at: u32) {
+    word(out, name, at);
+    push_word(out, " ")
 }
 
 #[cycle(statement)]
-fn statement(alloc: Global, stmt: &TypedStmt) -> Result<String, AllocError> {
+fn statement(out: &mut Written, stmt: &TypedStmt) {
     match stmt {
-        TypedStmt::Empty { at } => word(alloc, "empty", at.tok),
-        TypedStmt::Block(inner) => block(alloc, inner),
-        TypedStmt::Simple(one) => simple(alloc, one),
+        TypedStmt::Empty { at } => word(out, "empty", at.tok),
+        TypedStmt::Block(inner) => block(out, inner),
+        TypedStmt::Simple(one) => simple(out, one),
         TypedStmt::If { at, cond, yes, no } => {
-            let at = at.tok;
-            let cond = expression(alloc, cond.get())?;
-            let yes = statement(alloc, yes.get())?;
-            let no = match no {
-                Some(no) => statement(alloc, no.get())?,
-                None => String::from_str(alloc, "-")?,
-            };
-            format!(in alloc; "if@{at} {cond} then {yes} else {no}")
+            head(out, "if", at.tok);
+            expression(out, cond.get());
+            push_word(out, " then ");
+            statement(out, yes.get());
+            push_word(out, " else ");
+            match no {
+                Some(no) => statement(out, no.get()),
+                None => push_word(out, "-"),
+            }
         },
         TypedStmt::While { at, cond, body } => {
-            let at = at.tok;
-            let cond = expression(alloc, cond.get())?;
-            let body = statement(alloc, body.get())?;
-            format!(in alloc; "while@{at} {cond} do {body}")
+            head(out, "while", at.tok);
+            expression(out, cond.get());
+            push_word(out, " do ");
+            statement(out, body.get())
         },
         TypedStmt::Do { at, body, cond } => {
-            let at = at.tok;
-            let body = statement(alloc, body.get())?;
-            let cond = expression(alloc, cond.get())?;
-            format!(in alloc; "do@{at} {body} while {cond}")
+            head(out, "do", at.tok);
+            statement(out, body.get());
+            push_word(out, " while ");
+            expression(out, cond.get())
         },
         TypedStmt::For {
             at,
@@ -137,23 +141,36 @@ fn statement(alloc: Global, stmt: &TypedStmt) -> Result<String, AllocError> {
             last,
             body,
         } => {
-            let at = at.tok;
-            let first = simples(alloc, first.as_slice())?;
-            let cond = if_any(alloc, cond)?;
-            let last = simples(alloc, last.as_slice())?;
-            let body = statement(alloc, body.get())?;
-            format!(in alloc; "for@{at} ({first} | {cond} | {last}) {body}")
+            head(out, "for", at.tok);
+            turns(out, first.as_slice(), cond, last.as_slice());
+            statement(out, body.get())
         },
-        TypedStmt::Break { at } => word(alloc, "break", at.tok),
-        TypedStmt::Continue { at } => word(alloc, "continue", at.tok),
+        TypedStmt::Break { at } => word(out, "break", at.tok),
+        TypedStmt::Continue { at } => word(out, "continue", at.tok),
         TypedStmt::Return { at, value } => {
-            let at = at.tok;
-            let value = if_any(alloc, value)?;
-            format!(in alloc; "return@{at} {value}")
+            head(out, "return", at.tok);
+            if_any(out, value)
         },
     }
 }
 
-fn word(alloc: Global, name: &str, at: u32) -> Result<String, AllocError> {
-    format!(in alloc; "{name}@{at}")
+/// What stands in the brackets of a `for`.
+fn turns(
+    out: &mut Written,
+    first: &[TypedSimple],
+    cond: &Option<Boxed<TypedExpr>>,
+    last: &[TypedSimple],
+) {
+    push_word(out, "(");
+    simples(out, first);
+    push_word(out, " | ");
+    if_any(out, cond);
+    push_word(out, " | ");
+    simples(out, last);
+    push_word(out, ") ")
+}
+
+fn word(out: &mut Written, name: &str, at: u32) {
+    push_word(out, name);
+    push_numbered(out, "@", at)
 }
