@@ -1,0 +1,10 @@
+pub mod Alike
+pub mod Marked
+pub mod Reached
+pub mod Calling
+pub mod Expressions
+pub mod Simples
+pub mod Followed
+pub mod Statements
+pub mod Wholes
+pub mod Kept

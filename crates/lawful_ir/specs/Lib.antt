@@ -1,0 +1,5 @@
+pub mod Lawful
+pub mod Positions
+pub mod Walk
+pub mod Endings
+pub mod Laws
