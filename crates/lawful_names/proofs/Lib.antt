@@ -41,3 +41,4 @@ pub mod NoFunctionsInside
 pub mod OwnFew
 pub mod OwnObjects
 pub mod Truths
+pub mod OwnNames

@@ -177,7 +177,7 @@ module _ (source : Typed) (items : List Item) (sound : Seen → Bool) (clean : (
     sounds = r.sounds;
   }
 
-  next-keeps : (s : Source) (names : Names) (before : List (Known Declaration)) (item : ℕ) (x : Item) (rest : List Item) → Reached s names before item (x ∷ rest) → (name : List ℕ) (number : ℕ) (of : Function)
+  pub next-keeps : (s : Source) (names : Names) (before : List (Known Declaration)) (item : ℕ) (x : Item) (rest : List Item) → Reached s names before item (x ∷ rest) → (name : List ℕ) (number : ℕ) (of : Function)
       → Keeps source items name number of (st_of names s before) → Keeps source items name number of (st_of (seen_sources.after_item names item x) (after_item s item x) (functions_after names.items before item x))
   next-keeps s names before item (items_of.Objects list) rest r name number of k = objects-keep names s.here before s.functions list.decls (earlier sound _ _ r.sounds) name number of k
   next-keeps s names before item (items_of.Function g) rest r name number of k = function-keep s names before item g rest r name number of k

@@ -1,11 +1,11 @@
 -- Which lines of what is lawful hold of every source without a fault by what its names stand for.
-use Rattle.std.specs.Prelude.{◌≡◌, ℕ, ◌≤◌, true, length}
+use Rattle.std.specs.Prelude.{◌≡◌, ℕ, ◌≤◌, true, List, length, map}
 use Rattle.std.specs.List.{list_all, list_any, sum_by}
 use Rattle.sat_base.specs.declared.limits.TheConstants.{CONSTANTS, FUNCTIONS, OBJECT_BYTES, SCALARS, STATEMENTS, VIEWS}
 use Rattle.c_tree.specs.declared.program.Program.{Program}
 use Rattle.c_typed.specs.declared.typed.Typed.{Typed}
 use Rattle.c_types.specs.Tied.{IsTyped}
-use Rattle.lawful_sources.specs.Lawful.{is_own_scalar, is_own_view, bytes_of_object, count, has_few_parameters, is_statement, is_good_main, Everywhere}
+use Rattle.lawful_sources.specs.Lawful.{is_own_scalar, is_own_view, bytes_of_object, count, has_few_parameters, is_statement, is_good_main, StandsOnce, name_of, Everywhere}
 use Rattle.lawful_sources.specs.Statements.{in_source}
 use Rattle.lawful_names.specs.Spelled.{AllSpelled}
 use Rattle.lawful_sources.specs.Objects.{begins_well, has_shape, has_function, has_parameters}
@@ -79,3 +79,6 @@ ScalarsAreFew = (program : Program) (typed : Typed) → AllSpelled program → I
 
 abbrev pub ViewsAreFew : Type 0
 ViewsAreFew = (program : Program) (typed : Typed) → IsTyped program typed → (function : ℕ) → count (is_own_view function) typed.objects ≤ VIEWS
+
+abbrev pub NamesDiffer : Type 0
+NamesDiffer = (program : Program) (typed : Typed) → IsTyped program typed → (name : List ℕ) → StandsOnce (map name_of typed.functions) name

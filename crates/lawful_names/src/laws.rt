@@ -1,6 +1,6 @@
 // Lines of what is lawful that hold of every source without a fault by what its names stand for.
 
-ghost use Rattle.lawful_names.specs.Laws.{ArgumentsAreCounted, ArgumentsFit, CalleesAreDefined, ConstIsKept, ConstantsAreFew, ConversionsStand, DataAreFew, FunctionsAreFew, FunctionsExist, HasMain, MainIsNotCalled, ObjectsBegin, ObjectsExist, ObjectsHaveFunctions, ObjectsHaveShapes, ParametersAreFew, ParametersAreObjects, PlacesFit, ScalarsAreFew, StatementsAreFew, ValuesAreGiven, ViewsAreFew, WidthsAgree};
+ghost use Rattle.lawful_names.specs.Laws.{ArgumentsAreCounted, ArgumentsFit, CalleesAreDefined, ConstIsKept, ConstantsAreFew, ConversionsStand, DataAreFew, FunctionsAreFew, FunctionsExist, HasMain, MainIsNotCalled, NamesDiffer, ObjectsBegin, ObjectsExist, ObjectsHaveFunctions, ObjectsHaveShapes, ParametersAreFew, ParametersAreObjects, PlacesFit, ScalarsAreFew, StatementsAreFew, ValuesAreGiven, ViewsAreFew, WidthsAgree};
 
 /// Each object that is named is one of the source's own.
 pub fn objects_exist()
@@ -115,4 +115,9 @@ pub fn scalars_are_few()
 /// The views of each function are few.
 pub fn views_are_few()
     ensures { ViewsAreFew }
+{}
+
+/// No two functions have one name.
+pub fn names_differ()
+    ensures { NamesDiffer }
 {}

@@ -1,5 +1,5 @@
 -- Lawful sources. Each line is one condition, read of the numbers of a source alone.
-use Rattle.std.specs.Prelude.{◌≡◌, ℕ, ◌*◌, ◌≤◌, ◌==◌, nat_le, nat_lt, Bool, true, false, ◌&&◌, ◌||◌, if◌then◌else◌, ℤ, List, [], ◌∷◌, ◌++◌, flat_map, length, map, slice_get, Option, Some, None, is_some, is_none}
+use Rattle.std.specs.Prelude.{◌≡◌, ℕ, ◌*◌, ◌≤◌, ◌==◌, nat_le, nat_lt, Bool, true, false, ◌&&◌, ◌||◌, if◌then◌else◌, ℤ, List, [], ◌∷◌, ◌++◌, flat_map, length, map, slice_get, Option, Some, None, option_map, is_some, is_none}
 use Rattle.std.specs.List.{All, list_all, list_any, filter, sum_by}
 use Rattle.std.specs.List.Sorted.{IsPermutation, IsStrictlyIncreasing}
 use Rattle.std.specs.Ordering.{int_eq}
@@ -48,6 +48,17 @@ abbrev pub has_few_parameters : TypedFunction → Bool
 has_few_parameters function = nat_le (length function.params) PARAMETERS
 
 -- ---- functions
+
+-- no two places have this entry
+abbrev pub StandsOnce : {A : Type 0} → List A → A → Type 0
+StandsOnce list x = (one other : ℕ) → slice_get list one ≡ Some x → slice_get list other ≡ Some x → one ≡ other
+
+abbrev pub name_of : TypedFunction → List ℕ
+name_of function = function.name
+
+-- the token of the name in its definition, if it has one
+abbrev pub definition_token : TypedFunction → Option ℕ
+definition_token function = option_map (λ at. at.tok) function.defined
 
 -- a function has a body where it has the name in its definition, and else no parameters
 abbrev pub is_whole : TypedFunction → Bool
@@ -130,6 +141,9 @@ pub record IsLawful (source : Typed) : Type 0 where
   pub functions_exist : Everywhere source (function_exists source)
   -- functions and objects
   pub functions_are_whole : list_all is_whole source.functions ≡ true
+  -- no two functions have one name, and the names in no two definitions stand at one token
+  pub names_differ : (name : List ℕ) → StandsOnce (map name_of source.functions) name
+  pub definitions_differ : (token : ℕ) → StandsOnce (map definition_token source.functions) (Some token)
   pub objects_have_shapes : list_all has_shape source.objects ≡ true
   pub objects_have_functions : list_all (λ object. has_function source object object.function) source.objects ≡ true
   pub parameters_are_objects : list_all (has_parameters source) source.functions ≡ true

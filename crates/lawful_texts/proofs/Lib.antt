@@ -14,3 +14,4 @@ pub mod Distinct
 pub mod Order
 pub mod Rising
 pub mod Texts
+pub mod OwnDefinitions

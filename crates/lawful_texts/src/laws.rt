@@ -1,6 +1,6 @@
 // Lines of what is lawful that hold of every source that tokens spell.
 
-ghost use Rattle.lawful_texts.specs.Laws.{ConstantsStand, SitesHaveOwnTokens, TextsAreSpelled};
+ghost use Rattle.lawful_texts.specs.Laws.{ConstantsStand, DefinitionsDiffer, SitesHaveOwnTokens, TextsAreSpelled};
 
 /// In a source without a fault each array has an element, and no `&` stands before `*`.
 pub fn texts_are_spelled()
@@ -10,6 +10,11 @@ pub fn texts_are_spelled()
 /// No two sites have one token.
 pub fn sites_have_own_tokens()
     ensures { SitesHaveOwnTokens }
+{}
+
+/// The names in no two definitions stand at one token.
+pub fn definitions_differ()
+    ensures { DefinitionsDiffer }
 {}
 
 /// The relational constants of a source without a fault are those that stand in its definitions,

@@ -3,4 +3,4 @@
 
 mod laws;
 
-pub use laws::{constants_stand, sites_have_own_tokens, texts_are_spelled};
+pub use laws::{constants_stand, definitions_differ, sites_have_own_tokens, texts_are_spelled};

@@ -23,6 +23,7 @@ use Rattle.lawful_names.proofs.Main.{has-main}
 use Rattle.lawful_names.proofs.Objects.{objects-shaped}
 use Rattle.lawful_names.proofs.OwnObjects.{scalars-few, views-few}
 use Rattle.lawful_names.proofs.Owners.{objects-owned}
+use Rattle.lawful_names.proofs.OwnNames.{names-differ}
 use Rattle.lawful_names.proofs.Parameters.{parameters-stand}
 use Rattle.lawful_names.proofs.Places.{const-fits, widths-fit}
 use Rattle.lawful_names.proofs.Reaches.{places-fit}
@@ -33,6 +34,7 @@ use Rattle.lawful_objects.proofs.Exposed.{exposed-given}
 use Rattle.lawful_objects.proofs.Initial.{initial-values-fit}
 use Rattle.lawful_sites.proofs.Numbered.{are-numbered, stand-once}
 use Rattle.lawful_sites.proofs.SiteKinds.{kinds-agree}
+use Rattle.lawful_texts.proofs.OwnDefinitions.{definitions-differ}
 use Rattle.lawful_texts.proofs.Sites.{own-tokens}
 use Rattle.lawful_texts.proofs.Spelling.{texts-spelled}
 use Rattle.lawful_texts.proofs.Texts.{constants-stand}
@@ -57,6 +59,8 @@ sources-lawful program tokens typed spells numbers few is =
       objects_exist = each _ (objects-fit typed program.items AnyShape is_clean);
       functions_exist = each _ (functions-fit typed program.items AnyShape is_clean);
       functions_are_whole = functions-whole program typed is.tied;
+      names_differ = names-differ program typed is;
+      definitions_differ = definitions-differ program tokens typed spells is.tied;
       objects_have_shapes = objects-shaped program typed spelled is;
       objects_have_functions = objects-owned program typed is;
       parameters_are_objects = parameters-stand program typed is;
