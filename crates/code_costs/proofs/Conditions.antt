@@ -3,7 +3,7 @@ use Rattle.std.proofs.Common.{ℕ, ◌+◌, ◌≤◌, ℤ, pos, ◌+ℤ◌, Boo
 use Rattle.c_tree.specs.declared.expression.BinaryMark.{BinaryMark}
 use Rattle.c_tree.specs.declared.expression.BinaryMark.TheVariants as binary
 use Rattle.operator_meaning.specs.declared.object.Object.{Object}
-use Rattle.rv_encode.specs.declared.instruction.Instr.{Instr}
+use Rattle.code_lines.specs.declared.word.Word.{Word}
 use Rattle.ir_arena.specs.Costs.{cost_of, mark_words}
 use Rattle.ir_arena.specs.Tree.{IrTree, Not, Binary}
 use Rattle.code_lines.specs.Pieces.{flush_code}
@@ -20,11 +20,11 @@ abbrev pub branch_words : ℕ
 branch_words = 10
 
 -- `&&` and `||` have room for the branches of both
-pair_short : (xs ys : List Instr) (most most_right : ℕ) → length xs ≤ most + branch_words → length ys ≤ most_right + branch_words → length (xs ++ ys) ≤ mark_words + most + most_right + branch_words
+pair_short : (xs ys : List Word) (most most_right : ℕ) → length xs ≤ most + branch_words → length ys ≤ most_right + branch_words → length (xs ++ ys) ≤ mark_words + most + most_right + branch_words
 pair_short xs ys most most_right few few_right = omega (arith, few, few_right, length-append xs ys)
 
 module _ (objects : List Object) (l : Layout) (reach : Reach) (depth : ℕ) where
-  abbrev code_of : IrTree → (sense : Bool) → (lag : ℕ) → (distance : ℤ) → List Instr
+  abbrev code_of : IrTree → (sense : Bool) → (lag : ℕ) → (distance : ℤ) → List Word
   code_of = condition_code objects l reach depth
 
   relation_short : (mark : BinaryMark) (left right : IrTree) (sense : Bool) (lag : ℕ) (distance : ℤ)

@@ -6,7 +6,7 @@ use Rattle.c_tree.specs.declared.expression.BinaryMark.{BinaryMark}
 use Rattle.c_tree.specs.declared.expression.BinaryMark.TheVariants as binary
 use Rattle.operator_meaning.specs.declared.object.Object.{Object}
 use Rattle.operator_meaning.specs.declared.site.SiteKind.{SiteKind}
-use Rattle.rv_encode.specs.declared.instruction.Instr.{Instr}
+use Rattle.code_lines.specs.declared.word.Word.{Word}
 use Rattle.ir_arena.specs.Costs.{conversion_words, cost_of, costs_of, mark_words}
 use Rattle.ir_arena.specs.Tree.{IrTree, IrTarget, IrTrees, Constant, Read, Operate, Convert, Not, Invert, Binary, Choose, ReadFlag, Variable, end, more}
 use Rattle.code_lines.specs.Pieces.{number_code, flush_code}
@@ -43,7 +43,7 @@ module _ (l : Layout) (depth : ℕ) where
         length-append (flush_code weight) jump,
       )
 
-  chosen_short : (weight : ℕ) (value this other : List Instr) → length (chosen_code l depth weight value this other) ≤ length value + length this + length other + 12
+  chosen_short : (weight : ℕ) (value this other : List Word) → length (chosen_code l depth weight value this other) ≤ length value + length this + length other + 12
   chosen_short weight value this other =
       let pass = pass_code (length other) in
       let over = over_code l depth weight (length (this ++ pass)) in
@@ -57,10 +57,10 @@ module _ (l : Layout) (depth : ℕ) where
         length-append this pass,
       )
 
-  counted_short : (value : List Instr) (weight : ℕ) → length (counted_code value weight) ≤ length value + 5
+  counted_short : (value : List Word) (weight : ℕ) → length (counted_code value weight) ≤ length value + 5
   counted_short value weight = omega (arith, flush_short weight, length-append value (flush_code weight))
 
-  truth_short : (value : List Instr) (weight : ℕ) → length (truth_code l depth value weight) ≤ length value + 14
+  truth_short : (value : List Word) (weight : ℕ) → length (truth_code l depth value weight) ≤ length value + 14
   truth_short value weight =
       omega (arith, counted_short value weight, around_short l depth 1 (truth_line depth), length-append (counted_code value weight) (around l depth 1 (truth_line depth)))
 
@@ -70,7 +70,7 @@ module _ (l : Layout) (depth : ℕ) where
   line_short binary.Eq = lit≤ tt
   line_short mark = lit≤ tt
 
-  both_short : (mark : BinaryMark) (left right : List Instr) → length (left ++ (right ++ around l depth 2 (binary_line mark depth))) ≤ mark_words + length left + length right
+  both_short : (mark : BinaryMark) (left right : List Word) → length (left ++ (right ++ around l depth 2 (binary_line mark depth))) ≤ mark_words + length left + length right
   both_short mark left right =
       let words = around l depth 2 (binary_line mark depth) in
       omega (arith, line_short mark, around_short l depth 2 (binary_line mark depth), length-append left (right ++ words), length-append right words)
@@ -86,7 +86,7 @@ module _ (l : Layout) (depth : ℕ) where
   marked_short mark left right most most_right few few_right few_above = omega (arith, few, few_above, both_short mark (left.code depth) (right.code (depth + 1)))
 
 module _ (objects : List Object) (l : Layout) where
-  abbrev code_of : IrTree → (depth : ℕ) → List Instr
+  abbrev code_of : IrTree → (depth : ℕ) → List Word
   code_of = expression_code objects l
 
   pub convert_short : (width : Width) (shown : Bool) (depth : ℕ) → length (convert_code objects l width shown depth) ≤ conversion_words
@@ -99,7 +99,7 @@ module _ (objects : List Object) (l : Layout) where
   read_short target depth = lit≤ tt
 
   -- a value of which a line makes another
-  line_after : (value : List Instr) (depth : ℕ) (words : List Instr) → length (value ++ around l depth 1 words) ≤ length value + length words + 8
+  line_after : (value : List Word) (depth : ℕ) (words : List Word) → length (value ++ around l depth 1 words) ≤ length value + length words + 8
   line_after value depth words = omega (arith, around_short l depth 1 words, length-append value (around l depth 1 words))
 
   -- ---- operands

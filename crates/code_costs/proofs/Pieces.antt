@@ -1,7 +1,7 @@
 -- The words of the pieces of which all code is made.
 use Rattle.std.proofs.Common.{ℕ, zero, suc, ◌+◌, ◌≤◌, ℤ, pos, ◌+ℤ◌, Bool, true, false, nat_lt, if◌then◌else◌, List, [], ◌∷◌, ◌++◌, length, length-append, lit≤, arith}
-use Rattle.rv_encode.specs.declared.instruction.Instr.{Instr}
-use Rattle.rv_encode.specs.declared.instruction.Instr.TheVariants.{Add, Sltu}
+use Rattle.code_lines.specs.declared.word.Word.{Word}
+use Rattle.code_lines.specs.Own.{Add, Sltu}
 use Rattle.code_lines.specs.Pieces.{is_near, number_line, number_code, count_line, flush_code}
 use Rattle.code_jumps.specs.Jumps.{Reach, Short, Middle, Long, Test, branch_code, jump_code, jump_where, past_code, sensed}
 use Rattle.code_memory.specs.Memory.{access_code, access_line, load_code, store_code}
@@ -9,11 +9,11 @@ use Rattle.code_stacks.specs.Places.{Layout, in_registers, kept_slot, scratch_re
 use Rattle.code_stacks.specs.Operands.{fetch_code, fetches, finish_code}
 use Rattle.expression_code.specs.Code.{around}
 
-pub one_of : (b : Bool) (xs ys : List Instr) (most : ℕ) → length xs ≤ most → length ys ≤ most → length (if b then xs else ys) ≤ most
+pub one_of : {A : Type 0} (b : Bool) (xs ys : List A) (most : ℕ) → length xs ≤ most → length ys ≤ most → length (if b then xs else ys) ≤ most
 one_of true xs ys most first other = first
 one_of false xs ys most first other = other
 
-pub joined : (xs ys : List Instr) (a b : ℕ) → length xs ≤ a → length ys ≤ b → length (xs ++ ys) ≤ a + b
+pub joined : {A : Type 0} (xs ys : List A) (a b : ℕ) → length xs ≤ a → length ys ≤ b → length (xs ++ ys) ≤ a + b
 joined xs ys a b few less = omega (arith, few, less, length-append xs ys)
 
 -- ---- numbers, the count, and words of the memory
@@ -33,7 +33,7 @@ flush_short (suc weight) = by_test (nat_lt (suc weight) 2048)
     by_test true = lit≤ tt
     by_test false = omega (arith, number_short 6 (pos (suc weight)), length-append (number_code 6 (pos (suc weight))) (Add 24 24 6 ∷ Sltu 5 24 6 ∷ Add 25 25 5 ∷ []))
 
-access_short : (access : ℕ → ℤ → Instr) (slot : ℕ) → length (access_code access slot) ≤ 2
+access_short : (access : ℕ → ℤ → Word) (slot : ℕ) → length (access_code access slot) ≤ 2
 access_short access slot = by_test (nat_lt slot 4096)
   where
     by_test : (near : Bool) → length (access_line near access slot) ≤ 2
@@ -81,6 +81,6 @@ module _ (l : Layout) (depth : ℕ) where
   pub finish_short : length (finish_code l depth) ≤ 2
   finish_short = one_of (nat_lt depth in_registers) [] (store_code (stack_register depth) (kept_slot l depth)) 2 (omega arith) (store_short (stack_register depth) (kept_slot l depth))
 
-  pub around_short : (count : ℕ) (words : List Instr) → length (around l depth count words) ≤ length words + 8
+  pub around_short : (count : ℕ) (words : List Word) → length (around l depth count words) ≤ length words + 8
   around_short count words =
       omega (arith, fetches_short count, finish_short, length-append (fetches l depth count) (words ++ finish_code l depth), length-append words (finish_code l depth))

@@ -11,8 +11,8 @@ use Rattle.operator_meaning.specs.declared.site.SiteKind.TheVariants as kind
 use Rattle.source_runs.specs.Shapes.{shape_of}
 use Rattle.typed_meaning.specs.Expressions.{site_at}
 use Rattle.typed_meaning.specs.Statements.{step_mark}
-use Rattle.rv_encode.specs.declared.instruction.Instr.{Instr}
-use Rattle.rv_encode.specs.declared.instruction.Instr.TheVariants.{Addi, Ecall}
+use Rattle.code_lines.specs.declared.word.Word.{Word}
+use Rattle.code_lines.specs.Own.{Addi, Ecall}
 use Rattle.ir_arena.specs.Costs.{cost_of, cost_of_target, costs_of, object_words}
 use Rattle.ir_arena.specs.Tree.{IrTree, IrTarget, IrTrees, Constant, Read, Write, Step, WriteFlag, Out, Start, Variable, end, more}
 use Rattle.code_memory.specs.Memory.{store_code}
@@ -26,7 +26,7 @@ use Rattle.code_costs.proofs.Pieces.{store_short}
 use Rattle.code_costs.proofs.Sites.{site_short}
 
 module _ (objects : List Object) (l : Layout) where
-  abbrev value_code : IrTree → List Instr
+  abbrev value_code : IrTree → List Word
   value_code value = expression_code objects l value 0
 
   -- ---- assignments

@@ -17,7 +17,8 @@ use Rattle.operator_lowering.specs.Words.{bound_check, bound_of, checked, checke
 use Rattle.operator_lowering.proofs.Sound.{sound}
 use Rattle.ir_arena.specs.Costs.{conversion_words, words_of_site}
 use Rattle.code_stacks.specs.Places.{Layout}
-use Rattle.expression_code.specs.Code.{form_of, site_code, site_registers, widths_of}
+use Rattle.code_lines.proofs.Entering.{template_long}
+use Rattle.expression_code.specs.Code.{form_of, site_code, site_registers, widths_of, template_code}
 use Rattle.code_costs.proofs.Pieces.{around_short, joined, one_of}
 
 -- ---- what a site begins with
@@ -75,7 +76,8 @@ site_short l depth count site kind =
     let words = site_words kind (form_of kind) Kept (is_in_place (places way regs)) site in
     omega (
       arith,
-      around_short l depth count (template_words kind (form_of kind) Kept site regs),
+      around_short l depth count (template_code kind (form_of kind) site depth count),
+      template_long site (template_words kind (form_of kind) Kept site regs),
       length-append (front way regs) (all_over (places way regs) words),
       front_short regs way,
       length-map words (over (places way regs)),

@@ -1,7 +1,7 @@
 -- The code of a statement has at most the words that it may cost, and so has that of a program.
 use Rattle.std.proofs.Common.{ℕ, ◌+◌, ◌≤◌, ℤ, pos, ◌-ℤ◌, Bool, true, false, if◌then◌else◌, List, ◌++◌, length, length-append, arith}
 use Rattle.operator_meaning.specs.declared.object.Object.{Object}
-use Rattle.rv_encode.specs.declared.instruction.Instr.{Instr}
+use Rattle.code_lines.specs.declared.word.Word.{Word}
 use Rattle.ir_arena.specs.Costs.{cost_of, costs_of}
 use Rattle.ir_arena.specs.Tree.{IrTree, IrTrees, Empty, Block, If, Loop, Leave, Return, end, more}
 use Rattle.code_lines.specs.Pieces.{flush_code}
@@ -45,7 +45,7 @@ module _ (objects : List Object) (l : Layout) (near : Bool) where
 
   -- ---- choices
 
-  guarded_short : (cond : IrTree) (lag : ℕ) (guarded : List Instr) → length (guarded_code objects l near cond lag guarded) ≤ cost_of cond + branch_words + length guarded
+  guarded_short : (cond : IrTree) (lag : ℕ) (guarded : List Word) → length (guarded_code objects l near cond lag guarded) ≤ cost_of cond + branch_words + length guarded
   guarded_short cond lag guarded =
       let reach = reach_of (length guarded) in
       let over = pos (length guarded) in

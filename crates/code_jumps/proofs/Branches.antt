@@ -1,24 +1,32 @@
 -- Branches, by themselves and over jumps.
 use Rattle.std.proofs.Common.{◌≡◌, ℕ, ◌+◌, ◌≤◌, ℤ, pos, ◌+ℤ◌, ◌-ℤ◌, Bool, true, false, not, if◌then◌else◌, int_lt, List, [], ◌∷◌, length, refl, ap, ◌∙◌, subst, arith}
+use Rattle.std.specs.Prelude.{None}
 use Rattle.std.specs.Ordering.{int_eq}
 use Rattle.std.proofs.lemmas.Int.{ints}
-use Rattle.rv_encode.specs.declared.instruction.Instr.{Instr}
+use Rattle.code_lines.specs.declared.word.Word.{Word}
+use Rattle.code_lines.specs.Words.{StandHere, Code, instr_of, begun_by}
 use Rattle.rv_encode.specs.State.{MachineState, Moment, Running, register, target_pc}
 use Rattle.rv_encode.specs.Effects.{jumps, goes_on, effect_of}
 use Rattle.rv_encode.specs.Runs.{pc_of}
-use Rattle.template_runs.specs.Machine.{StandHere, IsBefore}
-use Rattle.code_lines.proofs.Lines.{next_is, next_place, stands_first, stands_rest}
-use Rattle.code_runs.proofs.Steps.{leads_both, leads_least}
+use Rattle.template_runs.specs.Machine.{IsBefore}
+use Rattle.code_lines.proofs.Lines.{next_is, next_place, later_one, stands_first, stands_rest}
+use Rattle.code_lines.proofs.Leading.{leads_both, leads_least}
 use Rattle.code_jumps.specs.Jumps.{bytes_of, jump_code, Test, Equal, Unequal, Less, NotLess, passes, opposite, sensed, met, branch_code, branch_by, Reach, Short, Middle, Long, IsThere, ComesTo, ComesBy, BranchesAreDone}
-use Rattle.code_jumps.proofs.Jumps.{later_in, target_is, to_word, there, jumps_are_done}
+use Rattle.code_jumps.proofs.Jumps.{target_is, to_word, there, jumps_are_done}
 
 turned : (b : Bool) (x y : Moment) → (if b then x else y) ≡ (if not b then y else x)
 turned true x y = refl
 turned false x y = refl
 
+own_branch : (test : Test) (rs1 rs2 : ℕ) (imm : ℤ) → begun_by (branch_by test rs1 rs2 imm) ≡ None
+own_branch Equal rs1 rs2 imm = refl
+own_branch Unequal rs1 rs2 imm = refl
+own_branch Less rs1 rs2 imm = refl
+own_branch NotLess rs1 rs2 imm = refl
+
 -- what a branch does, by its test
 effect_by : (test : Test) (rs1 rs2 : ℕ) (imm : ℤ) (s : MachineState)
-    → effect_of (branch_by test rs1 rs2 imm) s ≡ (if passes test (register s rs1) (register s rs2) then jumps s s.registers imm else goes_on s)
+    → effect_of (instr_of (branch_by test rs1 rs2 imm)) s ≡ (if passes test (register s rs1) (register s rs2) then jumps s s.registers imm else goes_on s)
 effect_by Equal rs1 rs2 imm s = refl
 effect_by Unequal rs1 rs2 imm s = turned (int_eq (register s rs1) (register s rs2)) (goes_on s) (jumps s s.registers imm)
 effect_by Less rs1 rs2 imm s = refl
@@ -35,7 +43,7 @@ opposed Less a b = refl
 opposed NotLess a b = twice (int_lt a b)
 
 -- one way after another
-then_on : (code : List ℕ) (m n between to : ℕ) (s : MachineState) → ComesTo code m between s → ((t : MachineState) → IsThere between s t → ComesTo code n to t) → ComesTo code (m + n) to s
+then_on : (code : Code) (m n between to : ℕ) (s : MachineState) → ComesTo code m between s → ((t : MachineState) → IsThere between s t → ComesTo code n to t) → ComesTo code (m + n) to s
 then_on code m n between to s first next =
     let t = first.0 in
     let way = first.2 in
@@ -52,18 +60,18 @@ then_on code m n between to s first next =
       },
     )
 
-at_least : (code : List ℕ) (m n to : ℕ) (s : MachineState) → n ≤ m → ComesTo code m to s → ComesTo code n to s
+at_least : (code : Code) (m n to : ℕ) (s : MachineState) → n ≤ m → ComesTo code m to s → ComesTo code n to s
 at_least code m n to s less comes = (comes.0, leads_least code m n (Running s) (Running comes.0) less comes.1, comes.2)
 
 -- a branch by itself
-short : (code : List ℕ) (k to : ℕ) (test : Test) (rs1 rs2 : ℕ) (distance : ℤ) (s : MachineState) (passed : Bool) → passes test (register s rs1) (register s rs2) ≡ passed
+short : (code : Code) (k to : ℕ) (test : Test) (rs1 rs2 : ℕ) (distance : ℤ) (s : MachineState) (passed : Bool) → passes test (register s rs1) (register s rs2) ≡ passed
     → StandHere code k (branch_by test rs1 rs2 (bytes_of distance) ∷ []) → IsBefore k s → pos to ≡ pos k +ℤ distance → to ≤ 16777216 → ComesBy passed code to (k + 1) s
 short code k to test rs1 rs2 distance s true e stands before is small =
     let instr = branch_by test rs1 rs2 (bytes_of distance) in
     let within = stands.within in
     let target : target_pc s.pc (bytes_of distance) ≡ pc_of to = ap (λ p. target_pc p (bytes_of distance)) before.pc ∙ target_is k to distance is (omega arith) small in (
       record s { pc = pc_of to },
-      later_in code 1 (Running s) (Running (record s { pc = pc_of to }))
+      later_one code k instr s stands before (Running (record s { pc = pc_of to })) (own_branch test rs1 rs2 (bytes_of distance))
           (next_is code k instr s stands before ∙ effect_by test rs1 rs2 (bytes_of distance) s
           ∙ ap (λ (b : Bool). if b then jumps s s.registers (bytes_of distance) else goes_on s) e ∙ to_word s (bytes_of distance) to target),
       there s k to before,
@@ -73,7 +81,7 @@ short code k to test rs1 rs2 distance s false e stands before is small =
     let t : MachineState = record s { pc = pc_of (k + 1) } in
     at_least code 1 0 (k + 1) s (omega arith) (
       t,
-      later_in code 1 (Running s) (Running t)
+      later_one code k instr s stands before (Running t) (own_branch test rs1 rs2 (bytes_of distance))
           (next_is code k instr s stands before ∙ effect_by test rs1 rs2 (bytes_of distance) s
           ∙ ap (λ (b : Bool). if b then jumps s s.registers (bytes_of distance) else goes_on s) e ∙ ap (λ p. Running (record s { pc = p })) (next_place code k instr s stands before)),
       there s k (k + 1) before,
@@ -84,14 +92,14 @@ same_size true one other = refl
 same_size false one other = refl
 
 -- a branch over a jump
-module _ (code : List ℕ) (k to : ℕ) (near : Bool) (test : Test) (rs1 rs2 : ℕ) (distance : ℤ) (s : MachineState) where
+module _ (code : Code) (k to : ℕ) (near : Bool) (test : Test) (rs1 rs2 : ℕ) (distance : ℤ) (s : MachineState) where
   abbrev size : ℕ
   size = length (jump_code near distance)
 
-  abbrev jump : List Instr
+  abbrev jump : List Word
   jump = jump_code near (distance -ℤ pos 1)
 
-  abbrev over : Instr
+  abbrev over : Word
   over = branch_by (opposite test) rs1 rs2 (bytes_of (pos (1 + size)))
 
   after : (k + (1 + size) ≡ k + length (over ∷ jump))

@@ -1,27 +1,20 @@
 -- Jumps, near and far.
-use Rattle.std.proofs.Common.{◌≡◌, ◌≢◌, ℕ, ◌+◌, ◌-◌, ◌*◌, ◌%◌, ◌^◌, ◌≤◌, ℤ, pos, ◌+ℤ◌, Bool, true, false, ◌==◌, if◌then◌else◌, List, [], ◌∷◌, length, refl, ap, ◌∙◌, arith}
+use Rattle.std.proofs.Common.{◌≡◌, ◌≢◌, ℕ, ◌+◌, ◌-◌, ◌*◌, ◌%◌, ◌^◌, ◌≤◌, ℤ, pos, ◌+ℤ◌, Bool, true, false, ◌==◌, if◌then◌else◌, [], ◌∷◌, length, refl, ap, ◌∙◌, arith}
 use Rattle.std.specs.Int.{w32, cast_signed, cast_unsigned}
 use Rattle.std.proofs.lemmas.Bool.Decides.{nat_tests}
 use Rattle.std.proofs.lemmas.Int.{ints}
 use Rattle.sat_base.specs.declared.machine_fault.MachineFault.TheVariants.{Jump}
-use Rattle.rv_encode.specs.declared.instruction.Instr.TheVariants.{Auipc, Jal, Jalr}
-use Rattle.rv_encode.specs.State.{MachineState, Moment, Running, register, target_pc, address_of}
+use Rattle.code_lines.specs.Own.{Auipc, Jal, Jalr}
+use Rattle.rv_encode.specs.State.{MachineState, Running, register, target_pc, address_of}
 use Rattle.rv_encode.specs.Effects.{jumps, jumps_to, faults, effect_of}
-use Rattle.rv_encode.specs.Runs.{pc_of, moment_after}
+use Rattle.rv_encode.specs.Runs.{pc_of}
 use Rattle.rv_encode.proofs.Places.{whole_pc_of}
-use Rattle.rv_encode.proofs.Runs.{moment_after_add}
-use Rattle.template_runs.specs.Machine.{StandHere, IsBefore}
+use Rattle.code_lines.specs.Words.{StandHere, Code, instr_of}
+use Rattle.template_runs.specs.Machine.{IsBefore}
 use Rattle.code_lines.specs.Pieces.{upper_of, lower_of}
-use Rattle.code_lines.proofs.Lines.{next_is, one_set, stands_first, stands_rest}
-use Rattle.code_runs.specs.Doing.{LeadsLater}
-use Rattle.code_runs.proofs.Steps.{leads_both, leads_least}
+use Rattle.code_lines.proofs.Lines.{next_is, later_one, one_set, stands_first, stands_rest}
+use Rattle.code_lines.proofs.Leading.{leads_both, leads_least}
 use Rattle.code_jumps.specs.Jumps.{bytes_of, jump_code, past_code, IsThere, ComesTo, JumpsAreDone}
-
--- by so many instructions
-pub later_in : (code : List ℕ) (n : ℕ) (a b : Moment) → moment_after code n a ≡ b → LeadsLater code n a b
-later_in code n a b e k =
-    let more : n + k ≤ n + k = omega arith in
-    (n + k, more, moment_after_add code n k a ∙ ap (moment_after code k) e)
 
 pub target_is : (k to : ℕ) (distance : ℤ) → pos to ≡ pos k +ℤ distance → k ≤ 16777216 → to ≤ 16777216 → target_pc (pc_of k) (bytes_of distance) ≡ pc_of to
 target_is k to distance is small small2 = grind (arith, ints)
@@ -50,13 +43,13 @@ far_target k to distance is small small2 = grind (arith, ints)
 even_pc : (to : ℕ) → pc_of to - pc_of to % 2 ≡ pc_of to
 even_pc to = omega arith
 
-module _ (code : List ℕ) (k to : ℕ) (distance : ℤ) (s : MachineState) (before : IsBefore k s) (is : pos to ≡ pos k +ℤ distance) (small : to ≤ 16777216) where
+module _ (code : Code) (k to : ℕ) (distance : ℤ) (s : MachineState) (before : IsBefore k s) (is : pos to ≡ pos k +ℤ distance) (small : to ≤ 16777216) where
   near_jump : StandHere code k (jump_code true distance) → ComesTo code 1 to s
   near_jump stands =
       let within = stands.within in
       let target : target_pc s.pc (bytes_of distance) ≡ pc_of to = ap (λ p. target_pc p (bytes_of distance)) before.pc ∙ target_is k to distance is (omega arith) small in (
         record s { pc = pc_of to },
-        later_in code 1 (Running s) (Running (record s { pc = pc_of to })) (next_is code k (Jal 0 (bytes_of distance)) s stands before ∙ to_word s (bytes_of distance) to target),
+        later_one code k (Jal 0 (bytes_of distance)) s stands before (Running (record s { pc = pc_of to })) refl (next_is code k (Jal 0 (bytes_of distance)) s stands before ∙ to_word s (bytes_of distance) to target),
         there s k to before,
       )
 
@@ -75,14 +68,14 @@ module _ (code : List ℕ) (k to : ℕ) (distance : ℤ) (s : MachineState) (bef
       ap (λ y. (cast_unsigned w32 y + cast_unsigned w32 (lower_of (bytes_of distance))) % 2 ^ 32) at ∙ far_target k to distance is (omega arith) small in
       let rest = stands_rest code k first (second ∷ []) stands in
       let u : MachineState = record t { pc = pc_of to } in
-      let effect : effect_of second t ≡ Running u =
+      let effect : effect_of (instr_of second) t ≡ Running u =
       ap (λ a. jumps_to t t.registers (a - a % 2)) address ∙ ap (jumps_to t t.registers) (even_pc to)
       ∙ ap (λ (b : Bool). if b then Running u else faults t Jump) (whole_pc_of to) in
       let last = there t (k + 1) to left.before in (
         u,
         leads_least code 2 1 (Running s) (Running u) (omega arith)
-            (leads_both code 1 1 (Running s) (Running t) (Running u) (later_in code 1 (Running s) (Running t) upper.1)
-            (later_in code 1 (Running t) (Running u) (next_is code (k + 1) second t rest left.before ∙ effect))),
+            (leads_both code 1 1 (Running s) (Running t) (Running u) (later_one code k first s (stands_first code k first (second ∷ []) stands) before (Running t) refl upper.1)
+            (later_one code (k + 1) second t rest left.before (Running u) refl (next_is code (k + 1) second t rest left.before ∙ effect))),
         record {
           before = last.before;
           others = λ n five. left.file n ∙ rw (another n five) refl;
@@ -108,7 +101,7 @@ pub past_steady : (near : Bool) (d other : ℤ) → length (past_code near d) �
 past_steady near d other = same_jump near (pos (length (jump_code near d)) +ℤ d) (pos (length (jump_code near other)) +ℤ other)
 
 -- a jump over words behind it
-pub passes_words : (code : List ℕ) (k to : ℕ) (near : Bool) (distance : ℤ) (s : MachineState) → StandHere code k (past_code near distance) → IsBefore k s
+pub passes_words : (code : Code) (k to : ℕ) (near : Bool) (distance : ℤ) (s : MachineState) → StandHere code k (past_code near distance) → IsBefore k s
     → pos to ≡ pos (k + length (past_code near distance)) +ℤ distance → to ≤ 16777216 → ComesTo code 1 to s
 passes_words code k to near distance s stands before is close =
     let own = pos (length (jump_code near distance)) +ℤ distance in

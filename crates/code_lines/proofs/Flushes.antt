@@ -1,15 +1,16 @@
 -- The count is brought up.
-use Rattle.std.proofs.Common.{◌≡◌, ℕ, zero, suc, ◌+◌, ◌*◌, ◌%◌, ◌^◌, ◌<◌, ℤ, pos, Bool, true, false, nat_lt, List, [], ◌∷◌, ◌++◌, length, refl, sym, ap, ◌∙◌, subst, arith}
+use Rattle.std.proofs.Common.{◌≡◌, ℕ, zero, suc, ◌+◌, ◌*◌, ◌%◌, ◌^◌, ◌<◌, ℤ, pos, Bool, true, false, nat_lt, [], ◌∷◌, ◌++◌, length, refl, sym, ap, ◌∙◌, subst, arith}
 use Rattle.std.specs.Prelude.{FitsSigned}
 use Rattle.std.specs.Int.{w32, cast_unsigned}
 use Rattle.std.proofs.lemmas.Int.{ints}
-use Rattle.rv_encode.specs.declared.instruction.Instr.TheVariants.{Add, Sltu}
+use Rattle.code_lines.specs.Words.{Code, StandHere}
+use Rattle.code_lines.specs.Own.{Add, Sltu}
+use Rattle.code_lines.specs.Leading.{Leads}
 use Rattle.rv_encode.specs.State.{MachineState, Running, register}
-use Rattle.rv_encode.specs.Runs.{Leads}
-use Rattle.rv_encode.proofs.Leads.{leads_nowhere}
-use Rattle.template_runs.specs.Machine.{StandHere, IsBefore}
+use Rattle.template_runs.specs.Machine.{IsBefore}
 use Rattle.code_lines.specs.Lines.{file_after, is_line}
 use Rattle.code_lines.specs.Pieces.{flush_code, count_code, count_line, number_line, is_near, count_in, HasHalves, IsNoCount}
+use Rattle.code_lines.proofs.Leading.{leads_nowhere}
 use Rattle.code_lines.proofs.Lines.{lines_run}
 use Rattle.code_lines.proofs.Pieces.{counts_are_added}
 
@@ -34,7 +35,7 @@ pub record IsFlushed (k weight : ℕ) (t u : MachineState) : Type 0 where
 pub no_weight : (high low : ℤ) → FitsSigned w32 high → FitsSigned w32 low → cast_unsigned w32 high * 2 ^ 32 + cast_unsigned w32 low ≡ (cast_unsigned w32 high * 2 ^ 32 + cast_unsigned w32 low + 0) % 2 ^ 64
 no_weight high low fits fits2 = grind (arith, ints)
 
-pub flushed : (code : List ℕ) (k weight : ℕ) (t : MachineState) → weight < 2 ^ 31 → StandHere code k (flush_code weight) → IsBefore k t → HasHalves (register t)
+pub flushed : (code : Code) (k weight : ℕ) (t : MachineState) → weight < 2 ^ 31 → StandHere code k (flush_code weight) → IsBefore k t → HasHalves (register t)
     → (u : MachineState) × Leads code (Running t) (Running u) × IsFlushed (k + length (flush_code weight)) weight t u
 flushed code k zero t small stands before halves =
     let none : k ≡ k + 0 = omega arith in

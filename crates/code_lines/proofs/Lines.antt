@@ -4,19 +4,21 @@ use Rattle.std.specs.Prelude.{Option, Some, None, slice_index_or}
 use Rattle.std.specs.Int.{w32, int_wrapping_add, int_wrapping_sub, int_wrapping_mul, int_bit_and, int_bit_or, int_bit_xor}
 use Rattle.std.proofs.lemmas.Bool.{eqb-true, cases_Bool}
 use Rattle.std.proofs.lemmas.Bool.Decides.{nat_tests}
-use Rattle.std.proofs.lemmas.List.Elements.{All-nil, All-cons, All-head, All-tail}
 use Rattle.rv_encode.specs.declared.instruction.Instr.{Instr}
 use Rattle.rv_encode.specs.declared.instruction.Instr.TheVariants.{Lui, Addi, Slti, Sltiu, Xori, Ori, Andi, Slli, Srli, Srai, Add, Sll, Slt, Sltu, Xor, Srl, Or, And, Sub, Sra, Mul, Mulh}
 use Rattle.rv_encode.specs.Arithmetic.{flag_of, is_below, shift_amount, shifted_left, shifted_right, shifted_right_signed, upper_product}
-use Rattle.rv_encode.specs.State.{MachineState, Running, register, registers_with, next_pc}
+use Rattle.rv_encode.specs.State.{MachineState, Moment, Running, register, registers_with, next_pc}
 use Rattle.rv_encode.specs.Effects.{sets, effect_of}
-use Rattle.rv_encode.specs.Runs.{pc_of, Leads, next_moment, executed, carried_out}
-use Rattle.rv_encode.specs.Words.{Fits}
+use Rattle.rv_encode.specs.Runs.{pc_of, next_moment, executed, carried_out}
 use Rattle.rv_encode.proofs.Encodings.{encoded_decodes}
-use Rattle.rv_encode.proofs.Leads.{leads_nowhere, leads_then, leads_in}
 use Rattle.rv_encode.proofs.Places.{fetched_at, next_pc_of}
-use Rattle.template_runs.specs.Machine.{StandHere, IsBefore}
+use Rattle.template_runs.specs.Machine.{IsBefore}
 use Rattle.template_runs.proofs.Steps.{count_with, same_with, other_with}
+use Rattle.code_lines.specs.declared.word.Word.{Word}
+use Rattle.code_lines.specs.declared.word.Word.TheVariants.{Own, First, Further}
+use Rattle.code_lines.specs.Words.{Code, StandHere, instr_of, begun_by}
+use Rattle.code_lines.specs.Leading.{Leads, LeadsLater}
+use Rattle.code_lines.proofs.Leading.{leads_nowhere, leads_then, leads_least, leads_own}
 use Rattle.code_lines.specs.Lines.{File, target_of, value_in, with_value, file_after, can_be_set, is_line, IsLeft, LinesRun}
 
 -- the effect of an instruction that sets a register, by values that the registers have
@@ -76,11 +78,18 @@ value_set registers rd x f some less same n =
     not_itself : (n : ℕ) → (n == n) ≡ false → ⊥
     not_itself n is = grind (arith, nat_tests)
 
-module _ (code : List ℕ) (k : ℕ) (instr : Instr) (s : MachineState) (stands : StandHere code k (instr ∷ [])) (before : IsBefore k s) where
+module _ (code : Code) (k : ℕ) (word : Word) (s : MachineState) (stands : StandHere code k (word ∷ [])) (before : IsBefore k s) where
   -- the moment after it is what it has for effect
-  pub next_is : next_moment code (Running s) ≡ effect_of instr s
+  pub next_is : next_moment code.words (Running s) ≡ effect_of (instr_of word) s
   next_is =
-      ap (λ o. executed o s) (fetched_at code s.pc k before.pc ∙ stands.stand.0) ∙ ap (λ o. carried_out o s) (encoded_decodes instr (All-head Fits instr [] stands.fit))
+      ap (λ o. executed o s) (fetched_at code.words s.pc k before.pc ∙ stands.stand.0.stand) ∙ ap (λ o. carried_out o s) (encoded_decodes (instr_of word) stands.stand.0.fit)
+
+  -- a word of the code's own enters no site
+  pub later_one : (at : Moment) → begun_by word ≡ None → next_moment code.words (Running s) ≡ at → LeadsLater code 1 (Running s) at
+  later_one at own next = leads_own code k s at before.pc (stands.stand.0.begun ∙ own) next
+
+  pub leads_one : (at : Moment) → begun_by word ≡ None → next_moment code.words (Running s) ≡ at → Leads code (Running s) at
+  leads_one at own next = leads_least code 1 0 (Running s) at (omega arith) (later_one at own next)
 
   -- and the next word follows
   pub next_place : next_pc s.pc ≡ pc_of (k + 1)
@@ -93,8 +102,8 @@ module _ (code : List ℕ) (k : ℕ) (instr : Instr) (s : MachineState) (stands 
 
   module _ (f : File) (same : (n : ℕ) → register s n ≡ f n) where
     -- an instruction that sets a register
-    pub one_set : (rd : ℕ) (x : ℤ) → can_be_set (Some rd) ≡ true → effect_of instr s ≡ sets s rd x
-        → (t : MachineState) × (next_moment code (Running s) ≡ Running t) × IsLeft (k + 1) (with_value (Some rd) x f) s t
+    pub one_set : (rd : ℕ) (x : ℤ) → can_be_set (Some rd) ≡ true → effect_of (instr_of word) s ≡ sets s rd x
+        → (t : MachineState) × (next_moment code.words (Running s) ≡ Running t) × IsLeft (k + 1) (with_value (Some rd) x f) s t
     one_set rd x can effect =
         let parts = both_true _ _ can in
         let some = not_zero rd parts.0 in
@@ -115,37 +124,35 @@ module _ (code : List ℕ) (k : ℕ) (instr : Instr) (s : MachineState) (stands 
           },
         )
 
-    one : (target : Option ℕ) → can_be_set target ≡ true → SetsBy target instr s f
-        → (t : MachineState) × (next_moment code (Running s) ≡ Running t) × IsLeft (k + 1) (with_value target (value_in instr f) f) s t
+    one : (target : Option ℕ) → can_be_set target ≡ true → SetsBy target (instr_of word) s f
+        → (t : MachineState) × (next_moment code.words (Running s) ≡ Running t) × IsLeft (k + 1) (with_value target (value_in (instr_of word) f) f) s t
     one None can effect = absurd (let e = can in cc)
-    one (Some rd) can effect = one_set rd (value_in instr f) can effect
+    one (Some rd) can effect = one_set rd (value_in (instr_of word) f) can effect
 
 -- ---- a line
 
-pub stands_first : (code : List ℕ) (k : ℕ) (instr : Instr) (instrs : List Instr) → StandHere code k (instr ∷ instrs) → StandHere code k (instr ∷ [])
-stands_first code k instr instrs stands =
-    let within = stands.within in
-    record { fit = All-cons Fits instr [] (All-head Fits instr instrs stands.fit) (All-nil Fits); stand = (stands.stand.0, tt); within = omega arith }
+pub stands_first : (code : Code) (k : ℕ) (word : Word) (words : List Word) → StandHere code k (word ∷ words) → StandHere code k (word ∷ [])
+stands_first code k word words stands = let within = stands.within in record { stand = (stands.stand.0, tt); within = omega arith }
 
-pub stands_rest : (code : List ℕ) (k : ℕ) (instr : Instr) (instrs : List Instr) → StandHere code k (instr ∷ instrs) → StandHere code (k + 1) instrs
-stands_rest code k instr instrs stands =
-    let within = stands.within in record { fit = All-tail Fits instr instrs stands.fit; stand = stands.stand.1; within = omega arith }
+pub stands_rest : (code : Code) (k : ℕ) (word : Word) (words : List Word) → StandHere code k (word ∷ words) → StandHere code (k + 1) words
+stands_rest code k word words stands = let within = stands.within in record { stand = stands.stand.1; within = omega arith }
 
-lines_by : (code : List ℕ) (k : ℕ) (instrs : List Instr) (s : MachineState) (f : File) → StandHere code k instrs → IsBefore k s → is_line instrs ≡ true → ((n : ℕ) → register s n ≡ f n)
-    → (t : MachineState) × Leads code (Running s) (Running t) × IsLeft (k + length instrs) (file_after instrs f) s t
+lines_by : (code : Code) (k : ℕ) (words : List Word) (s : MachineState) (f : File) → StandHere code k words → IsBefore k s → is_line words ≡ true → ((n : ℕ) → register s n ≡ f n)
+    → (t : MachineState) × Leads code (Running s) (Running t) × IsLeft (k + length words) (file_after words f) s t
 lines_by code k [] s f stands before line same =
     let none : k ≡ k + 0 = omega arith in
     (s, leads_nowhere code (Running s), record { before = subst (λ n. IsBefore n s) none before; file = same; memory = refl; input = refl; output = refl })
-lines_by code k (instr ∷ instrs) s f stands before line same =
+lines_by code k (Own instr ∷ words) s f stands before line same =
     let parts = both_true _ _ line in
-    let first = one code k instr s (stands_first code k instr instrs stands) before f same (target_of instr) parts.0 (sets_by s f same instr) in
+    let alone = stands_first code k (Own instr) words stands in
+    let first = one code k (Own instr) s alone before f same (target_of instr) parts.0 (sets_by s f same instr) in
     let between = first.0 in
     let left = first.2 in
-    let rest = lines_by code (k + 1) instrs between (with_value (target_of instr) (value_in instr f) f) (stands_rest code k instr instrs stands) left.before parts.1 left.file in
+    let rest = lines_by code (k + 1) words between (with_value (target_of instr) (value_in instr f) f) (stands_rest code k (Own instr) words stands) left.before parts.1 left.file in
     let last = rest.2 in
-    let whole : k + 1 + length instrs ≡ k + length (instr ∷ instrs) = omega arith in (
+    let whole : k + 1 + length words ≡ k + length (Own instr ∷ words) = omega arith in (
       rest.0,
-      leads_then code (Running s) (Running between) (Running rest.0) (leads_in code 1 (Running s) (Running between) first.1) rest.1,
+      leads_then code (Running s) (Running between) (Running rest.0) (leads_one code k (Own instr) s alone before (Running between) refl first.1) rest.1,
       record {
         before = subst (λ n. IsBefore n rest.0) whole last.before;
         file = last.file;
@@ -154,6 +161,8 @@ lines_by code k (instr ∷ instrs) s f stands before line same =
         output = last.output ∙ left.output;
       },
     )
+lines_by code k (First site instr ∷ words) s f stands before line same = absurd (let e = line in cc)
+lines_by code k (Further instr ∷ words) s f stands before line same = absurd (let e = line in cc)
 
 pub lines_run : LinesRun
-lines_run code k instrs s stands before line = lines_by code k instrs s (register s) stands before line (λ n. refl)
+lines_run code k words s stands before line = lines_by code k words s (register s) stands before line (λ n. refl)

@@ -5,8 +5,9 @@ use Rattle.std.specs.Int.{w32, cast_signed, cast_unsigned, int_wrapping_add}
 use Rattle.std.proofs.lemmas.Bool.Decides.{nat_tests}
 use Rattle.std.proofs.lemmas.Int.{ints}
 use Rattle.rv_encode.specs.Arithmetic.{flag_of, is_below}
-use Rattle.rv_encode.specs.declared.instruction.Instr.{Instr}
-use Rattle.rv_encode.specs.declared.instruction.Instr.TheVariants.{Add, Sltu}
+use Rattle.code_lines.specs.declared.word.Word.{Word}
+use Rattle.code_lines.specs.Words.{instr_of}
+use Rattle.code_lines.specs.Own.{Add, Sltu}
 use Rattle.code_lines.specs.Lines.{File, target_of, value_in, with_value, file_after}
 use Rattle.code_lines.specs.Pieces.{is_near, upper_of, lower_of, number_line, number_code, NumbersAreMade, count_line, HasHalves, IsCounted, CountsAreAdded}
 
@@ -55,9 +56,9 @@ carried high low weight fits fits2 small = grind (arith, ints, nat_tests)
 number_fits : (weight : ℕ) → weight < 2 ^ 31 → FitsSigned w32 (pos weight)
 number_fits weight small = grind (arith, ints)
 
-pub appended : (xs ys : List Instr) (f : File) → file_after (xs ++ ys) f ≡ file_after ys (file_after xs f)
+pub appended : (xs ys : List Word) (f : File) → file_after (xs ++ ys) f ≡ file_after ys (file_after xs f)
 appended [] ys f = refl
-appended (x ∷ xs) ys f = appended xs ys (with_value (target_of x) (value_in x f) f)
+appended (x ∷ xs) ys f = appended xs ys (with_value (target_of (instr_of x)) (value_in (instr_of x) f) f)
 
 counted : (near : Bool) (weight : ℕ) (f : File) → weight < 2 ^ 31 → f 0 ≡ pos 0 → HasHalves f → IsCounted weight f (file_after (count_line near weight) f)
 counted true weight f small zero halves = record {

@@ -1,12 +1,15 @@
--- Code that sets registers alone, word after word, over the values of all registers.
+-- Code of its own words that sets registers alone, word after word, over the values of all registers.
 use Rattle.std.specs.Prelude.{◌≡◌, ℕ, ◌+◌, ◌*◌, ◌^◌, ℤ, pos, Bool, true, false, not, ◌&&◌, ◌==◌, nat_lt, int_lt, if◌then◌else◌, List, [], ◌∷◌, length, Option, Some, None}
 use Rattle.std.specs.Int.{w32, cast_signed, int_wrapping_add, int_wrapping_sub, int_wrapping_mul, int_bit_and, int_bit_or, int_bit_xor}
 use Rattle.rv_encode.specs.declared.instruction.Instr.{Instr}
 use Rattle.rv_encode.specs.declared.instruction.Instr.TheVariants.{Lui, Addi, Slti, Sltiu, Xori, Ori, Andi, Slli, Srli, Srai, Add, Sll, Slt, Sltu, Xor, Srl, Or, And, Sub, Sra, Mul, Mulh}
 use Rattle.rv_encode.specs.Arithmetic.{flag_of, is_below, shift_amount, shifted_left, shifted_right, shifted_right_signed, upper_product}
 use Rattle.rv_encode.specs.State.{MachineState, Running, register}
-use Rattle.rv_encode.specs.Runs.{Leads}
-use Rattle.template_runs.specs.Machine.{StandHere, IsBefore}
+use Rattle.template_runs.specs.Machine.{IsBefore}
+use Rattle.code_lines.specs.declared.word.Word.{Word}
+use Rattle.code_lines.specs.declared.word.Word.TheVariants.{Own}
+use Rattle.code_lines.specs.Words.{Code, StandHere, instr_of}
+use Rattle.code_lines.specs.Leading.{Leads}
 
 -- the values of registers by their numbers
 abbrev pub File : Type 0
@@ -69,19 +72,20 @@ abbrev pub with_value : Option ℕ → ℤ → File → File
 with_value None x f = f
 with_value (Some rd) x f = λ n. if n == rd then x else f n
 
--- the values after these instructions
-abbrev pub file_after : List Instr → File → File
+-- the values after these words
+abbrev pub file_after : List Word → File → File
 file_after [] f = f
-file_after (instr ∷ instrs) f = file_after instrs (with_value (target_of instr) (value_in instr f) f)
+file_after (word ∷ words) f = file_after words (with_value (target_of (instr_of word)) (value_in (instr_of word) f) f)
 
 -- it sets a register that can be set
 abbrev pub can_be_set : Option ℕ → Bool
 can_be_set None = false
 can_be_set (Some rd) = not (rd == 0) && nat_lt rd 32
 
-abbrev pub is_line : List Instr → Bool
+abbrev pub is_line : List Word → Bool
 is_line [] = true
-is_line (instr ∷ instrs) = can_be_set (target_of instr) && is_line instrs
+is_line (Own instr ∷ words) = can_be_set (target_of instr) && is_line words
+is_line (word ∷ words) = false
 
 -- the machine before the word of this number, with these values in its registers, and all else as it was
 pub record IsLeft (k : ℕ) (f : File) (s t : MachineState) : Type 0 where
@@ -91,7 +95,7 @@ pub record IsLeft (k : ℕ) (f : File) (s t : MachineState) : Type 0 where
   pub input : t.input ≡ s.input
   pub output : t.output ≡ s.output
 
--- where such code stands, the machine comes to its end
+-- where such code stands, the machine comes to its end, and enters no site
 abbrev pub LinesRun : Type 0
-LinesRun = (code : List ℕ) (k : ℕ) (instrs : List Instr) (s : MachineState) → StandHere code k instrs → IsBefore k s → is_line instrs ≡ true
-    → (t : MachineState) × Leads code (Running s) (Running t) × IsLeft (k + length instrs) (file_after instrs (register s)) s t
+LinesRun = (code : Code) (k : ℕ) (words : List Word) (s : MachineState) → StandHere code k words → IsBefore k s → is_line words ≡ true
+    → (t : MachineState) × Leads code (Running s) (Running t) × IsLeft (k + length words) (file_after words (register s)) s t

@@ -1,8 +1,8 @@
 -- Short lines of which all emitted code is made: a number into a register, and a weight into the count.
 use Rattle.std.specs.Prelude.{◌≡◌, ◌≢◌, ℕ, zero, suc, ◌+◌, ◌*◌, ◌/◌, ◌%◌, ◌^◌, ◌<◌, ℤ, pos, negsuc, ◌-ℤ◌, Bool, true, false, ◌&&◌, int_le, nat_lt, List, [], ◌∷◌, ◌++◌, FitsSigned}
 use Rattle.std.specs.Int.{w32, cast_unsigned}
-use Rattle.rv_encode.specs.declared.instruction.Instr.{Instr}
-use Rattle.rv_encode.specs.declared.instruction.Instr.TheVariants.{Lui, Addi, Sltiu, Add, Sltu}
+use Rattle.code_lines.specs.declared.word.Word.{Word}
+use Rattle.code_lines.specs.Own.{Lui, Addi, Sltiu, Add, Sltu}
 use Rattle.code_lines.specs.Lines.{File, file_after}
 
 -- ---- numbers
@@ -18,12 +18,12 @@ upper_of n = (cast_unsigned w32 n + 2048) / 4096 % 2 ^ 20
 abbrev pub lower_of : ℤ → ℤ
 lower_of n = pos ((cast_unsigned w32 n + 2048) % 4096) -ℤ pos 2048
 
-abbrev pub number_line : (near : Bool) → (rd : ℕ) → ℤ → List Instr
+abbrev pub number_line : (near : Bool) → (rd : ℕ) → ℤ → List Word
 number_line true rd n = Addi rd 0 n ∷ []
 number_line false rd n = Lui rd (upper_of n) ∷ Addi rd rd (lower_of n) ∷ []
 
 -- a number into a register
-abbrev pub number_code : (rd : ℕ) → ℤ → List Instr
+abbrev pub number_code : (rd : ℕ) → ℤ → List Word
 number_code rd n = number_line (is_near n) rd n
 
 -- no other register changes
@@ -38,16 +38,16 @@ abbrev pub count_in : File → ℕ
 count_in f = cast_unsigned w32 (f 25) * 2 ^ 32 + cast_unsigned w32 (f 24)
 
 -- the carry of the lower half, in x5, goes into the upper one
-abbrev pub count_line : (near : Bool) → (weight : ℕ) → List Instr
+abbrev pub count_line : (near : Bool) → (weight : ℕ) → List Word
 count_line true weight = Addi 24 24 (pos weight) ∷ Sltiu 5 24 (pos weight) ∷ Add 25 25 5 ∷ []
 count_line false weight = number_code 6 (pos weight) ++ (Add 24 24 6 ∷ Sltu 5 24 6 ∷ Add 25 25 5 ∷ [])
 
 -- a weight into the count
-abbrev pub count_code : ℕ → List Instr
+abbrev pub count_code : ℕ → List Word
 count_code weight = count_line (nat_lt weight 2048) weight
 
 -- the weight by which the count lags behind is added, if there is any
-abbrev pub flush_code : ℕ → List Instr
+abbrev pub flush_code : ℕ → List Word
 flush_code zero = []
 flush_code (suc weight) = count_code (suc weight)
 

@@ -1,21 +1,21 @@
 -- Loads and stores, near and far.
-use Rattle.std.proofs.Common.{◌≡◌, ◌≢◌, ℕ, ◌+◌, ◌*◌, ◌%◌, ◌^◌, ◌<◌, ℤ, pos, ◌-ℤ◌, Bool, true, false, ◌==◌, nat_lt, if◌then◌else◌, List, [], ◌∷◌, length, Some, refl, sym, ap, ◌∙◌, subst, arith}
+use Rattle.std.proofs.Common.{◌≡◌, ◌≢◌, ℕ, ◌+◌, ◌*◌, ◌%◌, ◌^◌, ◌<◌, ℤ, pos, ◌-ℤ◌, Bool, true, false, ◌==◌, nat_lt, if◌then◌else◌, [], ◌∷◌, length, Some, refl, sym, ap, ◌∙◌, subst, arith}
 use Rattle.std.specs.Int.{w32, cast_signed, cast_unsigned}
 use Rattle.std.proofs.lemmas.Bool.Decides.{nat_tests}
 use Rattle.std.proofs.lemmas.Int.{ints}
-use Rattle.std.proofs.lemmas.List.Elements.{All-head}
 use Rattle.sat_base.specs.declared.machine_fault.MachineFault.TheVariants.{Load, Store, Align}
-use Rattle.rv_encode.specs.declared.instruction.Instr.{Instr}
-use Rattle.rv_encode.specs.declared.instruction.Instr.TheVariants.{Lui, Lw, Sw}
+use Rattle.code_lines.specs.declared.word.Word.{Word}
+use Rattle.code_lines.specs.Words.{StandHere, Code}
+use Rattle.code_lines.specs.Own.{Lui, Lw, Sw}
 use Rattle.rv_encode.specs.State.{MachineState, Moment, Running, register, data_start, is_inside, next_pc, address_of}
 use Rattle.rv_encode.specs.Effects.{sets, loads, stores, faults}
-use Rattle.rv_encode.specs.Runs.{Leads, next_moment}
-use Rattle.rv_encode.specs.Words.{Fits}
-use Rattle.rv_encode.proofs.Leads.{leads_then, leads_in}
-use Rattle.template_runs.specs.Machine.{StandHere, IsBefore}
+use Rattle.code_lines.specs.Leading.{Leads}
+use Rattle.rv_encode.specs.Runs.{next_moment}
+use Rattle.code_lines.proofs.Leading.{leads_then}
+use Rattle.template_runs.specs.Machine.{IsBefore}
 use Rattle.code_lines.specs.Lines.{IsLeft, with_value, can_be_set}
 use Rattle.code_lines.specs.Pieces.{upper_of, lower_of}
-use Rattle.code_lines.proofs.Lines.{next_is, next_place, one_set, stands_first, stands_rest}
+use Rattle.code_lines.proofs.Lines.{next_is, next_place, leads_one, one_set, stands_first, stands_rest}
 use Rattle.code_memory.specs.Memory.{IsSlot, word_in, with_word_in, base, access_line, IsLoaded, IsStored, LoadsAreDone, StoresAreDone}
 use Rattle.code_memory.proofs.Words.{is_in, is_whole}
 
@@ -54,14 +54,14 @@ module _ (s : MachineState) (slot : ℕ) (at : IsSlot s.memory slot) where
       ap (λ (b : Bool). if b then (if is_inside s.memory (data_start + slot) 4 then goes else faults s Store) else faults s Align) (is_whole s.memory slot at)
       ∙ ap (λ (b : Bool). if b then goes else faults s Store) (is_in s.memory slot at)
 
-module _ (code : List ℕ) (k rs slot : ℕ) (imm : ℤ) (s : MachineState) (before : IsBefore k s) (at : IsSlot s.memory slot) (address : address_of s rs imm ≡ data_start + slot) where
+module _ (code : Code) (k rs slot : ℕ) (imm : ℤ) (s : MachineState) (before : IsBefore k s) (at : IsSlot s.memory slot) (address : address_of s rs imm ≡ data_start + slot) where
   loads_one : (rd : ℕ) → StandHere code k (Lw rd rs imm ∷ []) → rd ≢ 0 → (t : MachineState) × Leads code (Running s) (Running t) × IsLoaded (k + 1) rd (word_in s.memory slot) s t
   loads_one rd stands some =
-      let fit : Fits (Lw rd rs imm) = All-head Fits (Lw rd rs imm) [] stands.fit in
+      let fit = stands.stand.0.fit in
       let done = one_set code k (Lw rd rs imm) s stands before (register s) (λ n. refl) rd (word_in s.memory slot) (settable rd some fit.0) (ap (loads s rd) address ∙ loaded s slot at rd) in
       let left = done.2 in (
         done.0,
-        leads_in code 1 (Running s) (Running done.0) done.1,
+        leads_one code k (Lw rd rs imm) s stands before (Running done.0) refl done.1,
         record {
           before = left.before;
           gives = left.file rd ∙ rw (itself rd) refl;
@@ -76,7 +76,7 @@ module _ (code : List ℕ) (k rs slot : ℕ) (imm : ℤ) (s : MachineState) (bef
   stores_one value stands =
       let t : MachineState = record s { memory = with_word_in s.memory slot (register s value); pc = next_pc s.pc } in (
         t,
-        leads_in code 1 (Running s) (Running t) (next_is code k (Sw rs value imm) s stands before ∙ ap (λ a. stores s a (register s value)) address ∙ stored s slot at (register s value)),
+        leads_one code k (Sw rs value imm) s stands before (Running t) refl (next_is code k (Sw rs value imm) s stands before ∙ ap (λ a. stores s a (register s value)) address ∙ stored s slot at (register s value)),
         record {
           before = record { pc = next_place code k (Sw rs value imm) s stands before; count = before.count; zero_is = before.zero_is };
           others = λ n five. refl;
@@ -89,9 +89,9 @@ module _ (code : List ℕ) (k rs slot : ℕ) (imm : ℤ) (s : MachineState) (bef
 -- ---- near and far
 
 -- the upper bits of the address in x5
-module _ (code : List ℕ) (k slot : ℕ) (s : MachineState) (before : IsBefore k s) (at : IsSlot s.memory slot) (access : Instr)
+module _ (code : Code) (k slot : ℕ) (s : MachineState) (before : IsBefore k s) (at : IsSlot s.memory slot) (access : Word)
     (stands : StandHere code k (Lui 5 (upper_of (pos (data_start + slot))) ∷ access ∷ [])) where
-  upper : (t : MachineState) × (next_moment code (Running s) ≡ Running t) × IsLeft (k + 1) (with_value (Some 5) (cast_signed w32 (upper_of (pos (data_start + slot)) * 2 ^ 12)) (register s)) s t
+  upper : (t : MachineState) × (next_moment code.words (Running s) ≡ Running t) × IsLeft (k + 1) (with_value (Some 5) (cast_signed w32 (upper_of (pos (data_start + slot)) * 2 ^ 12)) (register s)) s t
   upper =
       let instr = Lui 5 (upper_of (pos (data_start + slot))) in
       one_set code k instr s (stands_first code k instr (access ∷ []) stands) before (register s) (λ n. refl) 5 (cast_signed w32 (upper_of (pos (data_start + slot)) * 2 ^ 12)) refl refl
@@ -100,7 +100,8 @@ module _ (code : List ℕ) (k slot : ℕ) (s : MachineState) (before : IsBefore 
   far = upper.0
 
   far_leads : Leads code (Running s) (Running far)
-  far_leads = leads_in code 1 (Running s) (Running far) upper.1
+  far_leads =
+      let instr = Lui 5 (upper_of (pos (data_start + slot))) in leads_one code k instr s (stands_first code k instr (access ∷ []) stands) before (Running far) refl upper.1
 
   far_left : IsLeft (k + 1) (with_value (Some 5) (cast_signed w32 (upper_of (pos (data_start + slot)) * 2 ^ 12)) (register s)) s far
   far_left = upper.2
@@ -114,7 +115,7 @@ module _ (code : List ℕ) (k slot : ℕ) (s : MachineState) (before : IsBefore 
       let most = at.small in
       address_by far 5 (cast_signed w32 (upper_of (pos (data_start + slot)) * 2 ^ 12)) (lower_of (pos (data_start + slot))) (data_start + slot) (far_left.file 5) (far_address slot (omega arith))
 
-loads_by : (near : Bool) (code : List ℕ) (k rd slot : ℕ) (s : MachineState) → nat_lt slot 4096 ≡ near → StandHere code k (access_line near (λ rs imm. Lw rd rs imm) slot) → IsBefore k s
+loads_by : (near : Bool) (code : Code) (k rd slot : ℕ) (s : MachineState) → nat_lt slot 4096 ≡ near → StandHere code k (access_line near (λ rs imm. Lw rd rs imm) slot) → IsBefore k s
     → register s 3 ≡ base → IsSlot s.memory slot → rd ≢ 0
     → (t : MachineState) × Leads code (Running s) (Running t) × IsLoaded (k + length (access_line near (λ rs imm. Lw rd rs imm) slot)) rd (word_in s.memory slot) s t
 loads_by true code k rd slot s near stands before based at some =
@@ -143,7 +144,7 @@ loads_by false code k rd slot s near stands before based at some =
 pub loads_are_done : LoadsAreDone
 loads_are_done code k rd slot s stands before based at some = loads_by (nat_lt slot 4096) code k rd slot s refl stands before based at some
 
-stores_by : (near : Bool) (code : List ℕ) (k rs slot : ℕ) (s : MachineState) → nat_lt slot 4096 ≡ near → StandHere code k (access_line near (λ address imm. Sw address rs imm) slot) → IsBefore k s
+stores_by : (near : Bool) (code : Code) (k rs slot : ℕ) (s : MachineState) → nat_lt slot 4096 ≡ near → StandHere code k (access_line near (λ address imm. Sw address rs imm) slot) → IsBefore k s
     → register s 3 ≡ base → IsSlot s.memory slot → rs ≢ 5
     → (t : MachineState) × Leads code (Running s) (Running t) × IsStored (k + length (access_line near (λ address imm. Sw address rs imm) slot)) slot (register s rs) s t
 stores_by true code k rs slot s near stands before based at other =

@@ -1,11 +1,12 @@
 -- Words of the data memory by their offsets, and the code that loads and stores them.
 use Rattle.std.specs.Prelude.{◌≡◌, ◌≢◌, ℕ, ◌+◌, ◌%◌, ◌≤◌, ℤ, pos, ◌-ℤ◌, Bool, true, false, nat_lt, List, [], ◌∷◌, length, FitsSigned}
 use Rattle.std.specs.Int.{w32, cast_signed, cast_unsigned}
-use Rattle.rv_encode.specs.declared.instruction.Instr.{Instr}
-use Rattle.rv_encode.specs.declared.instruction.Instr.TheVariants.{Lui, Lw, Sw}
+use Rattle.code_lines.specs.declared.word.Word.{Word}
+use Rattle.code_lines.specs.Words.{StandHere, Code}
+use Rattle.code_lines.specs.Own.{Lui, Lw, Sw}
 use Rattle.rv_encode.specs.State.{MachineState, Running, register, data_start, word_at, with_word}
-use Rattle.rv_encode.specs.Runs.{Leads}
-use Rattle.template_runs.specs.Machine.{StandHere, IsBefore}
+use Rattle.code_lines.specs.Leading.{Leads}
+use Rattle.template_runs.specs.Machine.{IsBefore}
 use Rattle.code_lines.specs.Pieces.{upper_of, lower_of}
 
 -- ---- words
@@ -43,19 +44,19 @@ abbrev pub base : ℤ
 base = pos (data_start + base_offset)
 
 -- one instruction reaches the first 4,096 bytes; further words have their address in x5
-abbrev pub access_line : (near : Bool) → (access : (rs : ℕ) → ℤ → Instr) → (slot : ℕ) → List Instr
+abbrev pub access_line : (near : Bool) → (access : (rs : ℕ) → ℤ → Word) → (slot : ℕ) → List Word
 access_line true access slot = access base_register (pos slot -ℤ pos base_offset) ∷ []
 access_line false access slot = Lui 5 (upper_of (pos (data_start + slot))) ∷ access 5 (lower_of (pos (data_start + slot))) ∷ []
 
-abbrev pub access_code : (access : (rs : ℕ) → ℤ → Instr) → (slot : ℕ) → List Instr
+abbrev pub access_code : (access : (rs : ℕ) → ℤ → Word) → (slot : ℕ) → List Word
 access_code access slot = access_line (nat_lt slot 4096) access slot
 
 -- the word at an offset into a register
-abbrev pub load_code : (rd slot : ℕ) → List Instr
+abbrev pub load_code : (rd slot : ℕ) → List Word
 load_code rd slot = access_code (λ rs imm. Lw rd rs imm) slot
 
 -- a register into the word at an offset
-abbrev pub store_code : (rs slot : ℕ) → List Instr
+abbrev pub store_code : (rs slot : ℕ) → List Word
 store_code rs slot = access_code (λ address imm. Sw address rs imm) slot
 
 -- the machine before the word of this number, where a register has this number, and all others but x5 are as before
@@ -76,9 +77,9 @@ pub record IsStored (k slot : ℕ) (x : ℤ) (s t : MachineState) : Type 0 where
   pub output : t.output ≡ s.output
 
 abbrev pub LoadsAreDone : Type 0
-LoadsAreDone = (code : List ℕ) (k rd slot : ℕ) (s : MachineState) → StandHere code k (load_code rd slot) → IsBefore k s → register s base_register ≡ base → IsSlot s.memory slot → rd ≢ 0
+LoadsAreDone = (code : Code) (k rd slot : ℕ) (s : MachineState) → StandHere code k (load_code rd slot) → IsBefore k s → register s base_register ≡ base → IsSlot s.memory slot → rd ≢ 0
     → (t : MachineState) × Leads code (Running s) (Running t) × IsLoaded (k + length (load_code rd slot)) rd (word_in s.memory slot) s t
 
 abbrev pub StoresAreDone : Type 0
-StoresAreDone = (code : List ℕ) (k rs slot : ℕ) (s : MachineState) → StandHere code k (store_code rs slot) → IsBefore k s → register s base_register ≡ base → IsSlot s.memory slot → rs ≢ 5
+StoresAreDone = (code : Code) (k rs slot : ℕ) (s : MachineState) → StandHere code k (store_code rs slot) → IsBefore k s → register s base_register ≡ base → IsSlot s.memory slot → rs ≢ 5
     → (t : MachineState) × Leads code (Running s) (Running t) × IsStored (k + length (store_code rs slot)) slot (register s rs) s t

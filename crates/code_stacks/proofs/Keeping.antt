@@ -11,6 +11,7 @@ use Rattle.operator_meaning.specs.Table.{FitsWidth}
 use Rattle.source_runs.specs.Shapes.{shape_of}
 use Rattle.source_runs.specs.State.{Kept}
 use Rattle.rv_encode.specs.State.{MachineState, register}
+use Rattle.code_lines.specs.Words.{Code}
 use Rattle.code_memory.specs.Memory.{IsSlot, IsStored, word_in}
 use Rattle.code_memory.proofs.Words.{words_are_kept}
 use Rattle.code_stacks.specs.Places.{Layout, IsLaidOut, stack_register, kept_slot, value_at, value_of, HasStack}
@@ -125,14 +126,14 @@ keeps_registers l depth m t changed spare same memory input output = record {
 }
 
 -- a word of a value that is not below
-pub kept_at : (l : Layout) (memory : List ℕ) (place : ℕ) → IsLaidOut l → length memory ≡ l.size → 5 ≤ place → place < l.depth → IsSlot memory (kept_slot l place)
+pub kept_at : {code : Code} (l : Layout) (memory : List ℕ) (place : ℕ) → IsLaidOut code l → length memory ≡ l.size → 5 ≤ place → place < l.depth → IsSlot memory (kept_slot l place)
 kept_at l memory place laid size above below =
     let whole = laid.kept_whole in
     let room = laid.room in
     let small = laid.small in
     record { whole = omega arith; inside = omega (arith, size); small = omega (arith, size) }
 
-pub variable_at : (l : Layout) (memory : List ℕ) (n : ℕ) → IsLaidOut l → length memory ≡ l.size → l.is_variable n ≡ true → IsSlot memory (l.slot n)
+pub variable_at : {code : Code} (l : Layout) (memory : List ℕ) (n : ℕ) → IsLaidOut code l → length memory ≡ l.size → l.is_variable n ≡ true → IsSlot memory (l.slot n)
 variable_at l memory n laid size is =
     let room = laid.room in
     let small = laid.small in
@@ -147,7 +148,7 @@ pub work_spare : (depth n : ℕ) → IsWork n → ((place : ℕ) → place < dep
 work_spare depth n is stack =
     record { based = work_apart n 3 is refl; low = work_below n 24 is refl; high = work_below n 25 is refl; stack = stack }
 
-pub keeps_stored : (l : Layout) (depth k : ℕ) (x : ℤ) (m t : MachineState) → IsLaidOut l → length m.memory ≡ l.size → 5 ≤ depth → depth < l.depth → IsStored k (kept_slot l depth) x m t → Keeps l depth m t
+pub keeps_stored : {code : Code} (l : Layout) (depth k : ℕ) (x : ℤ) (m t : MachineState) → IsLaidOut code l → length m.memory ≡ l.size → 5 ≤ depth → depth < l.depth → IsStored k (kept_slot l depth) x m t → Keeps l depth m t
 keeps_stored l depth k x m t laid size above below stored =
     let at = kept_at l m.memory depth laid size above below in
     let words = words_are_kept in record {

@@ -1,17 +1,15 @@
 -- Operands come into registers, and a result goes to its place.
 use Rattle.std.proofs.Common.{◌≡◌, ◌≢◌, ℕ, zero, suc, ◌+◌, ◌<◌, ◌≤◌, ℤ, Bool, true, false, nat_lt, if◌then◌else◌, List, [], ◌∷◌, ◌++◌, length, length-append, refl, sym, ap, ◌∙◌, subst, inl, inr, arith}
-use Rattle.std.specs.Prelude.{All, FitsSigned}
+use Rattle.std.specs.Prelude.{FitsSigned}
 use Rattle.std.specs.Int.{w32}
 use Rattle.std.proofs.lemmas.Bool.Decides.{nat_tests}
 use Rattle.std.proofs.lemmas.Bool.{cases_lt}
-use Rattle.std.proofs.lemmas.List.Elements.{All-nil, All-cons, All-head, All-tail}
-use Rattle.rv_encode.specs.declared.instruction.Instr.{Instr}
+use Rattle.code_lines.specs.declared.word.Word.{Word}
+use Rattle.code_lines.specs.Words.{StandHere, Code, AreStanding}
 use Rattle.rv_encode.specs.State.{MachineState, Running, register}
-use Rattle.rv_encode.specs.Runs.{Leads}
-use Rattle.rv_encode.specs.Words.{Fits}
-use Rattle.rv_encode.proofs.Leads.{leads_nowhere, leads_then}
-use Rattle.rv_encode.proofs.Places.{stand_left, stand_right}
-use Rattle.template_runs.specs.Machine.{StandHere, IsBefore}
+use Rattle.code_lines.specs.Leading.{Leads}
+use Rattle.code_lines.proofs.Leading.{leads_nowhere, leads_then}
+use Rattle.template_runs.specs.Machine.{IsBefore}
 use Rattle.code_memory.specs.Memory.{base, word_in, load_code, store_code}
 use Rattle.code_memory.proofs.Accesses.{loads_are_done, stores_are_done}
 use Rattle.code_memory.proofs.Words.{words_are_kept}
@@ -22,25 +20,24 @@ use Rattle.code_stacks.proofs.Keeping.{Keeps, keeps_same, kept_at, keeps_stored}
 
 -- ---- two lines of code
 
-all_left : {A : Type 0} (P : A → Type 0) (xs ys : List A) → All P (xs ++ ys) → All P xs
-all_left P [] ys all = All-nil P
-all_left P (x ∷ xs) ys all = All-cons P x xs (All-head P x (xs ++ ys) all) (all_left P xs ys (All-tail P x (xs ++ ys) all))
+standing_left : (code : Code) (k : ℕ) (xs ys : List Word) → AreStanding code k (xs ++ ys) → AreStanding code k xs
+standing_left code k [] ys stand = tt
+standing_left code k (x ∷ xs) ys stand = (stand.0, standing_left code (k + 1) xs ys stand.1)
 
-all_right : {A : Type 0} (P : A → Type 0) (xs ys : List A) → All P (xs ++ ys) → All P ys
-all_right P [] ys all = all
-all_right P (x ∷ xs) ys all = all_right P xs ys (All-tail P x (xs ++ ys) all)
+standing_right : (code : Code) (k : ℕ) (xs ys : List Word) → AreStanding code k (xs ++ ys) → AreStanding code (k + length xs) ys
+standing_right code k [] ys stand = let none : k ≡ k + length {A = Word} [] = omega arith in subst (λ n. AreStanding code n ys) none stand
+standing_right code k (x ∷ xs) ys stand =
+    let next : k + 1 + length xs ≡ k + length (x ∷ xs) = omega arith in subst (λ n. AreStanding code n ys) next (standing_right code (k + 1) xs ys stand.1)
 
-pub first_stands : (code : List ℕ) (k : ℕ) (xs ys : List Instr) → StandHere code k (xs ++ ys) → StandHere code k xs
+pub first_stands : (code : Code) (k : ℕ) (xs ys : List Word) → StandHere code k (xs ++ ys) → StandHere code k xs
 first_stands code k xs ys stands =
-    let within = stands.within in
-    record { fit = all_left Fits xs ys stands.fit; stand = stand_left code k xs ys stands.stand; within = omega (arith, length-append xs ys) }
+    let within = stands.within in record { stand = standing_left code k xs ys stands.stand; within = omega (arith, length-append xs ys) }
 
-pub second_stands : (code : List ℕ) (k : ℕ) (xs ys : List Instr) → StandHere code k (xs ++ ys) → StandHere code (k + length xs) ys
+pub second_stands : (code : Code) (k : ℕ) (xs ys : List Word) → StandHere code k (xs ++ ys) → StandHere code (k + length xs) ys
 second_stands code k xs ys stands =
-    let within = stands.within in
-    record { fit = all_right Fits xs ys stands.fit; stand = stand_right code k xs ys stands.stand; within = omega (arith, length-append xs ys) }
+    let within = stands.within in record { stand = standing_right code k xs ys stands.stand; within = omega (arith, length-append xs ys) }
 
-pub both_long : (k : ℕ) (xs ys : List Instr) → k + length xs + length ys ≡ k + length (xs ++ ys)
+pub both_long : (k : ℕ) (xs ys : List Word) → k + length xs + length ys ≡ k + length (xs ++ ys)
 both_long k xs ys = omega (arith, length-append xs ys)
 
 -- ---- one operand
@@ -53,7 +50,7 @@ pub record IsFetched (k found scratch : ℕ) (x : ℤ) (m t : MachineState) : Ty
   pub input : t.input ≡ m.input
   pub output : t.output ≡ m.output
 
-module _ (code : List ℕ) (l : Layout) (laid : IsLaidOut l) where
+module _ (code : Code) (l : Layout) (laid : IsLaidOut code l) where
   -- the data memory is where the code looks for it
   pub record IsReached (m : MachineState) : Type 0 where
     pub based : register m 3 ≡ base

@@ -2,6 +2,7 @@
 use Rattle.std.specs.Prelude.{◌≡◌, ◌≢◌, ℕ, zero, suc, ◌+◌, ◌-◌, ◌*◌, ◌%◌, ◌<◌, ◌≤◌, ℤ, pos, Bool, true, nat_lt, if◌then◌else◌, List, length, slice_index_or, FitsSigned}
 use Rattle.std.specs.Int.{w32}
 use Rattle.rv_encode.specs.State.{MachineState, register}
+use Rattle.code_lines.specs.Words.{Code}
 use Rattle.code_memory.specs.Memory.{word_in}
 
 -- ---- the stack of values
@@ -26,22 +27,24 @@ scratch_register (suc zero) = 15
 scratch_register operand = 16
 
 -- where the variables of a source have their words, and where the words of values begin, of which there are so many with
--- those in registers; and how many bytes the data memory has
+-- those in registers; how many bytes the data memory has; and which sites have no words
 pub record Layout : Type 0 where
   pub is_variable : ℕ → Bool
   pub slot : ℕ → ℕ
   pub kept : ℕ
   pub depth : ℕ
   pub size : ℕ
+  pub is_wordless : ℕ → Bool
 
--- the words lie in the memory, and no two of them overlap
-pub record IsLaidOut (l : Layout) : Type 0 where
+-- the words lie in the memory, no two of them overlap, and the sites without words are those of the code
+pub record IsLaidOut (code : Code) (l : Layout) : Type 0 where
   pub small : l.size ≤ 4194304
   pub whole : (n : ℕ) → l.is_variable n ≡ true → l.slot n % 4 ≡ 0
   pub before : (n : ℕ) → l.is_variable n ≡ true → l.slot n + 4 ≤ l.kept
   pub apart : (n other : ℕ) → l.is_variable n ≡ true → l.is_variable other ≡ true → n ≢ other → l.slot n ≢ l.slot other
   pub kept_whole : l.kept % 4 ≡ 0
   pub room : l.kept + 4 * (l.depth - in_registers) ≤ l.size
+  pub wordless : (site : ℕ) → code.is_wordless site ≡ l.is_wordless site
 
 -- the word of a value that has no register
 abbrev pub kept_slot : Layout → ℕ → ℕ

@@ -12,14 +12,14 @@ use Rattle.source_runs.specs.State.{SourceState}
 use Rattle.typed_meaning.specs.Expressions.{Setting, Called}
 use Rattle.ir_arena.specs.Tree.{IrTree, Not, Binary}
 use Rattle.tree_meaning.specs.Trees.{value_meaning}
-use Rattle.rv_encode.specs.declared.instruction.Instr.{Instr}
+use Rattle.code_lines.specs.declared.word.Word.{Word}
+use Rattle.code_lines.specs.Words.{StandHere, Code}
 use Rattle.rv_encode.specs.State.{MachineState, Moment, Running, register}
-use Rattle.template_runs.specs.Machine.{StandHere}
 use Rattle.code_jumps.specs.Jumps.{Unequal, passes, Reach, met, jump_where}
 use Rattle.code_lines.specs.Pieces.{flush_code, IsNoCount}
-use Rattle.code_runs.specs.Doing.{Bond, Comes, Does, DoesIn, LeadsLater, side}
+use Rattle.code_runs.specs.Doing.{Bond, Comes, Does, DoesIn, side, Passes}
+use Rattle.code_lines.specs.Leading.{LeadsLater}
 use Rattle.code_runs.proofs.Parts.{later}
-use Rattle.code_runs.proofs.Steps.{leads_still, leads_both, leads_least}
 use Rattle.code_stacks.specs.Places.{Layout, IsLaidOut}
 use Rattle.code_stacks.specs.Agreement.{IsWith, With}
 use Rattle.code_stacks.specs.Operands.{operand_register, fetches}
@@ -36,6 +36,7 @@ use Rattle.expression_code.proofs.Pairs.{pair_does}
 use Rattle.expression_code.proofs.Values.{marked}
 use Rattle.condition_code.specs.Code.{comparison_of, is_relation, placed_by, compared, value_code, relation_code, condition_code}
 use Rattle.condition_code.specs.Laws.{is_condition, height_of_condition, weight_of_condition, Decided, one_if_met}
+use Rattle.code_runs.proofs.Steps.{passes_none, passes_still, passes_both, passes_least}
 
 truth_holds : (b : Bool) → holds (truth b) ≡ b
 truth_holds true = refl
@@ -58,7 +59,7 @@ relation_holds binary.Le x y is = truth_holds (int_le x y) ∙ not_less x y
     not_less a b = grind (arith, ints)
 relation_holds mark x y is = let e = is in cc
 
-module _ (code : List ℕ) (turns : ℕ) (l : Layout) (laid : IsLaidOut l) (here : Setting) (called : Called) (scalars : AreScalars here.objects l) (reach : Reach) where
+module _ (code : Code) (turns : ℕ) (l : Layout) (laid : IsLaidOut code l) (here : Setting) (called : Called) (scalars : AreScalars here.objects l) (reach : Reach) where
   abbrev At : (k lag : ℕ) → List ℤ → Bond
   At k lag values = With here.objects l k lag values
 
@@ -72,20 +73,24 @@ module _ (code : List ℕ) (turns : ℕ) (l : Layout) (laid : IsLaidOut l) (here
       → DoesIn code turns (one_if_met sense) (At k lag values) (value_meaning here called e) (Leads_on target (k + length (condition_code here.objects l reach (length values) e sense lag distance)) values sense)
 
   -- what the machine does after a run
-  further : {A : Type 0} (from : Moment) (least : A → ℕ) (between after : A → Bond) (o : Outcome A) → Comes code turns from (λ a. 0) between o
-      → ((a : A) (s : SourceState) (m : MachineState) → between a s m → (v : MachineState) × LeadsLater code (least a) (Running m) (Running v) × after a s v) → Comes code turns from least after o
-  further from least between after (Gives a s) comes on =
-      let next = on a s comes.0 comes.2 in
-      (next.0, leads_least code (0 + least a) (least a) from (Running next.0) (omega arith) (leads_both code 0 (least a) from (Running comes.0) (Running next.0) comes.1 next.1), next.2)
-  further from least between after (Stops site s) comes on = comes
-  further from least between after (Goes s) comes on = comes
+  further : {A : Type 0} (from : Moment) (sites : List ℕ) (least : A → ℕ) (between after : A → Bond) (o : Outcome A) → Comes code turns from sites (λ a. 0) between o
+      → ((a : A) (s : SourceState) (m : MachineState) → between a s m → (v : MachineState) × LeadsLater code (least a) (Running m) (Running v) × after a s v) → Comes code turns from sites least after o
+  further from sites least between after (Gives a s) comes on =
+      let next = on a s comes.0 comes.2 in (
+        next.0,
+        passes_least code (0 + least a) (least a) sites s.sites from (Running next.0) (omega arith)
+            (passes_both code 0 (least a) sites s.sites s.sites from (Running comes.0) (Running next.0) comes.1 (passes_none code (least a) s.sites (Running comes.0) (Running next.0) next.1)),
+        next.2,
+      )
+  further from sites least between after (Stops site s) comes on = comes
+  further from sites least between after (Goes s) comes on = comes
 
   -- another value that holds alike
-  alike : (from : Moment) (target end : ℕ) (values : List ℤ) (sense : Bool) (x y : ℤ) (s : SourceState) (b : Bool) → b ≡ met sense (holds y)
-      → ((m : MachineState) × LeadsLater code (if b then 1 else 0) from (Running m) × side (At target 0 values) (At end 0 values) b s m)
-      → Comes code turns from (one_if_met sense) (Leads_on target end values sense) (Gives y s)
-  alike from target end values sense x y s b same comes =
-      subst (λ c. (m : MachineState) × LeadsLater code (if c then 1 else 0) from (Running m) × side (At target 0 values) (At end 0 values) c s m) same comes
+  alike : (from : Moment) (sites : List ℕ) (target end : ℕ) (values : List ℤ) (sense : Bool) (x y : ℤ) (s : SourceState) (b : Bool) → b ≡ met sense (holds y)
+      → ((m : MachineState) × Passes code (if b then 1 else 0) sites s.sites from (Running m) × side (At target 0 values) (At end 0 values) b s m)
+      → Comes code turns from sites (one_if_met sense) (Leads_on target end values sense) (Gives y s)
+  alike from sites target end values sense x y s b same comes =
+      subst (λ c. (m : MachineState) × Passes code (if c then 1 else 0) sites s.sites from (Running m) × side (At target 0 values) (At end 0 values) c s m) same comes
 
   -- ---- a value, and a relation
 
@@ -99,7 +104,7 @@ module _ (code : List ℕ) (turns : ℕ) (l : Layout) (laid : IsLaidOut l) (here
       let end = k + length (xs ++ rest) in
       let whole : k + length xs + length rest ≡ end = omega (arith, length-append xs rest) in
       let some = some_height e in
-      further (Running m) (one_if_met sense) (Valued here.objects l (k + length xs) (lag + weight_of e) values e) (Leads_on target end values sense) (value_meaning here called e s)
+      further (Running m) s.sites (one_if_met sense) (Valued here.objects l (k + length xs) (lag + weight_of e) values e) (Leads_on target end values sense) (value_meaning here called e s)
       (expression_does code turns l laid here called scalars e k lag values straight room (first_stands code k xs rest stands) s m at)
       (λ x t u valued.
       let leads = compared_leads code here.objects l laid reach sense Unequal (operand_register depth 0) 0 (k + length xs) (lag + weight_of e) 0 (lag + weight_of e) values (x ∷ []) x (pos 0) distance target t u (omega arith) (omega (arith, some)) (omega arith) small
@@ -155,9 +160,9 @@ module _ (code : List ℕ) (turns : ℕ) (l : Layout) (laid : IsLaidOut l) (here
       let both : Does code turns (At k lag values) (value_meaning here called left >>= (λ x. value_meaning here called right >>= (λ y. gives (marked mark x y)))) (IsMarked start late values mark) =
       pair_does code turns l laid here called scalars left right (expression_does code turns l laid here called scalars left) (expression_does code turns l laid here called scalars right)
       k lag values (λ x y. gives (marked mark x y)) rest (IsMarked start late values mark) straight straight2 (omega arith) (omega arith) stands
-      (λ x y t u fits fits2 stands_there on. (u, leads_still code (Running u), record { x = x; y = y; is = refl; on_stack = on })) in
-      further (Running m) (one_if_met sense) (IsMarked start late values mark) (Leads_on target end values sense) (value_meaning here called (Binary mark left right) s)
-      (subst (λ run. Comes code turns (Running m) (λ a. 0) (IsMarked start late values mark) (run s)) (sym (relation_is mark (value_meaning here called left) (value_meaning here called right) relation)) (both s m at))
+      (λ x y t u fits fits2 stands_there on. (u, passes_still code t.sites (Running u), record { x = x; y = y; is = refl; on_stack = on })) in
+      further (Running m) s.sites (one_if_met sense) (IsMarked start late values mark) (Leads_on target end values sense) (value_meaning here called (Binary mark left right) s)
+      (subst (λ run. Comes code turns (Running m) s.sites (λ a. 0) (IsMarked start late values mark) (run s)) (sym (relation_is mark (value_meaning here called left) (value_meaning here called right) relation)) (both s m at))
       (λ v t u marks.
       let x = marks.x in
       let y = marks.y in
@@ -175,18 +180,18 @@ module _ (code : List ℕ) (turns : ℕ) (l : Layout) (laid : IsLaidOut l) (here
   other_sense false true = refl
   other_sense false false = refl
 
-  turned_over : (sense : Bool) (from : Moment) (target end : ℕ) (values : List ℤ) (o : Outcome ℤ) → Comes code turns from (one_if_met (not sense)) (Leads_on target end values (not sense)) o
-      → Comes code turns from (one_if_met sense) (Leads_on target end values sense) (continued o (unary_meaning unary.Not 0))
+  turned_over : (sense : Bool) (from : Moment) (sites : List ℕ) (target end : ℕ) (values : List ℤ) (o : Outcome ℤ) → Comes code turns from sites (one_if_met (not sense)) (Leads_on target end values (not sense)) o
+      → Comes code turns from sites (one_if_met sense) (Leads_on target end values sense) (continued o (unary_meaning unary.Not 0))
   unfolding unary_meaning
-  turned_over sense from target end values (Gives x s) comes =
-      alike from target end values sense x (truth (int_eq x (pos 0))) s (met (not sense) (holds x)) (other_sense sense (int_eq x (pos 0)) ∙ ap (met sense) (sym (truth_holds (int_eq x (pos 0))))) comes
-  turned_over sense from target end values (Stops site s) comes = comes
-  turned_over sense from target end values (Goes s) comes = comes
+  turned_over sense from sites target end values (Gives x s) comes =
+      alike from sites target end values sense x (truth (int_eq x (pos 0))) s (met (not sense) (holds x)) (other_sense sense (int_eq x (pos 0)) ∙ ap (met sense) (sym (truth_holds (int_eq x (pos 0))))) comes
+  turned_over sense from sites target end values (Stops site s) comes = comes
+  turned_over sense from sites target end values (Goes s) comes = comes
 
   not_does : (part : IrTree) → DoesCondition part → DoesCondition (Not part)
   unfolding ◌>>=◌
   not_does part does sense k lag values distance target is room small stands target_is near s m at =
-      turned_over sense (Running m) target _ values (value_meaning here called part s) (does (not sense) k lag values distance target is room small stands target_is near s m at)
+      turned_over sense (Running m) s.sites target _ values (value_meaning here called part s) (does (not sense) k lag values distance target is room small stands target_is near s m at)
 
   -- `&&` is decided by a left operand that does not hold, and `||` by one that does
   record IsPair (mark : BinaryMark) (decides : Bool) : Type 0 where
@@ -206,42 +211,42 @@ module _ (code : List ℕ) (turns : ℕ) (l : Layout) (laid : IsLaidOut l) (here
   either_pair = record { early = λ x. refl; late = λ x y s. refl }
 
   module _ (mark : BinaryMark) (decides : Bool) (pair : IsPair mark decides) (right : Run ℤ) (sense : Bool) (target end : ℕ) (values : List ℤ) where
-    renamed : (x : ℤ) (from : Moment) (o : Outcome ℤ) → Comes code turns from (one_if_met sense) (Leads_on target end values sense) o
-        → Comes code turns from (one_if_met sense) (Leads_on target end values sense) (continued o (both_meaning mark 0 x))
-    renamed x from (Gives y s) comes =
-        subst (Comes code turns from (one_if_met sense) (Leads_on target end values sense)) (sym (pair.late x y s))
-        (alike from target end values sense y (truth (holds y)) s (met sense (holds y)) (ap (met sense) (sym (truth_holds (holds y)))) comes)
-    renamed x from (Stops site s) comes = comes
-    renamed x from (Goes s) comes = comes
+    renamed : (x : ℤ) (from : Moment) (sites : List ℕ) (o : Outcome ℤ) → Comes code turns from sites (one_if_met sense) (Leads_on target end values sense) o
+        → Comes code turns from sites (one_if_met sense) (Leads_on target end values sense) (continued o (both_meaning mark 0 x))
+    renamed x from sites (Gives y s) comes =
+        subst (Comes code turns from sites (one_if_met sense) (Leads_on target end values sense)) (sym (pair.late x y s))
+        (alike from sites target end values sense y (truth (holds y)) s (met sense (holds y)) (ap (met sense) (sym (truth_holds (holds y)))) comes)
+    renamed x from sites (Stops site s) comes = comes
+    renamed x from sites (Goes s) comes = comes
 
-    side_of : (c : Bool) (from : Moment) (s : SourceState) (m : MachineState) → LeadsLater code 1 from (Running m) → At (if c then target else end) 0 values s m
-        → (v : MachineState) × LeadsLater code (if c then 1 else 0) from (Running v) × side (At target 0 values) (At end 0 values) c s v
-    side_of true from s m leads at = (m, leads, at)
-    side_of false from s m leads at = (m, leads_least code 1 0 from (Running m) (omega arith) leads, at)
+    side_of : (c : Bool) (from : Moment) (sites : List ℕ) (s : SourceState) (m : MachineState) → Passes code 1 sites s.sites from (Running m) → At (if c then target else end) 0 values s m
+        → (v : MachineState) × Passes code (if c then 1 else 0) sites s.sites from (Running v) × side (At target 0 values) (At end 0 values) c s v
+    side_of true from sites s m leads at = (m, leads, at)
+    side_of false from sites s m leads at = (m, passes_least code 1 0 sites s.sites from (Running m) (omega arith) leads, at)
 
     module _ (inner next : ℕ) (inner_is : inner ≡ (if met sense decides then target else end)) (does_right : DoesIn code turns (one_if_met sense) (At next 0 values) right (Leads_on target end values sense)) where
-      by_left : (b : Bool) (x : ℤ) (from : Moment) (s : SourceState) → met decides (holds x) ≡ b
-          → ((m : MachineState) × LeadsLater code (if b then 1 else 0) from (Running m) × side (At inner 0 values) (At next 0 values) b s m)
-          → Comes code turns from (one_if_met sense) (Leads_on target end values sense) (decided_or (decided mark x) (right >>= both_meaning mark 0 x) s)
+      by_left : (b : Bool) (x : ℤ) (from : Moment) (sites : List ℕ) (s : SourceState) → met decides (holds x) ≡ b
+          → ((m : MachineState) × Passes code (if b then 1 else 0) sites s.sites from (Running m) × side (At inner 0 values) (At next 0 values) b s m)
+          → Comes code turns from sites (one_if_met sense) (Leads_on target end values sense) (decided_or (decided mark x) (right >>= both_meaning mark 0 x) s)
       unfolding ◌>>=◌
-      by_left true x from s is comes =
+      by_left true x from sites s is comes =
           let known : decided mark x ≡ Some (truth decides) = pair.early x ∙ ap (λ (b : Bool). if b then Some (truth decides) else None) is in
-          subst (λ d. Comes code turns from (one_if_met sense) (Leads_on target end values sense) (decided_or d (right >>= both_meaning mark 0 x) s)) (sym known)
-          (alike from target end values sense x (truth decides) s (met sense decides) (ap (met sense) (sym (truth_holds decides)))
-          (side_of (met sense decides) from s comes.0 comes.1 (subst (λ n. At n 0 values s comes.0) inner_is comes.2)))
-      by_left false x from s is comes =
+          subst (λ d. Comes code turns from sites (one_if_met sense) (Leads_on target end values sense) (decided_or d (right >>= both_meaning mark 0 x) s)) (sym known)
+          (alike from sites target end values sense x (truth decides) s (met sense decides) (ap (met sense) (sym (truth_holds decides)))
+          (side_of (met sense decides) from sites s comes.0 comes.1 (subst (λ n. At n 0 values s comes.0) inner_is comes.2)))
+      by_left false x from sites s is comes =
           let open_still : decided mark x ≡ None = pair.early x ∙ ap (λ (b : Bool). if b then Some (truth decides) else None) is in
-          subst (λ d. Comes code turns from (one_if_met sense) (Leads_on target end values sense) (decided_or d (right >>= both_meaning mark 0 x) s)) (sym open_still)
-          (later code 0 turns turns from comes.0 (one_if_met sense) (one_if_met sense) (Leads_on target end values sense) (continued (right s) (both_meaning mark 0 x)) (omega arith) (λ a. omega arith) comes.1
-          (renamed x (Running comes.0) (right s) (does_right s comes.0 comes.2)))
+          subst (λ d. Comes code turns from sites (one_if_met sense) (Leads_on target end values sense) (decided_or d (right >>= both_meaning mark 0 x) s)) (sym open_still)
+          (later code 0 turns turns sites s.sites from comes.0 (one_if_met sense) (one_if_met sense) (Leads_on target end values sense) (continued (right s) (both_meaning mark 0 x)) (omega arith) (λ a. omega arith) comes.1
+          (renamed x (Running comes.0) s.sites (right s) (does_right s comes.0 comes.2)))
 
-      joined : (from : Moment) (o : Outcome ℤ) → Comes code turns from (one_if_met decides) (Leads_on inner next values decides) o
-          → Comes code turns from (one_if_met sense) (Leads_on target end values sense) (continued o (λ x. decided_or (decided mark x) (right >>= both_meaning mark 0 x)))
-      joined from (Gives x s) comes = by_left (met decides (holds x)) x from s refl comes
-      joined from (Stops site s) comes = comes
-      joined from (Goes s) comes = comes
+      joined : (from : Moment) (sites : List ℕ) (o : Outcome ℤ) → Comes code turns from sites (one_if_met decides) (Leads_on inner next values decides) o
+          → Comes code turns from sites (one_if_met sense) (Leads_on target end values sense) (continued o (λ x. decided_or (decided mark x) (right >>= both_meaning mark 0 x)))
+      joined from sites (Gives x s) comes = by_left (met decides (holds x)) x from sites s refl comes
+      joined from sites (Stops site s) comes = comes
+      joined from sites (Goes s) comes = comes
 
-  abbrev code_of : IrTree → (sense : Bool) → (lag depth : ℕ) → ℤ → List Instr
+  abbrev code_of : IrTree → (sense : Bool) → (lag depth : ℕ) → ℤ → List Word
   code_of e sense lag depth distance = condition_code here.objects l reach depth e sense lag distance
 
   -- how far the left operand leads where it decides
@@ -278,7 +283,7 @@ module _ (code : List ℕ) (turns : ℕ) (l : Layout) (laid : IsLaidOut l) (here
       let right_does : DoesIn code turns (one_if_met sense) (At next 0 values) (value_meaning here called right) (Leads_on target end values sense) =
       subst (λ e. DoesIn code turns (one_if_met sense) (At next 0 values) (value_meaning here called right) (Leads_on target e values sense)) whole
       (does_right sense next 0 values distance target is_right (omega arith) (omega arith) (second_stands code k xs ys stands) (omega (arith, ints, target_is, whole)) near) in
-      joined mark decides pair (value_meaning here called right) sense target end values inner_place next refl right_does (Running m) (value_meaning here called left s)
+      joined mark decides pair (value_meaning here called right) sense target end values inner_place next refl right_does (Running m) s.sites (value_meaning here called left s)
       (does decides k lag values inner inner_place is (omega arith) (omega arith) (first_stands code k xs ys stands)
       (inner_target (met sense decides) inner_place target end next (length ys) distance target_is whole refl) (inner_near (met sense decides) target end near within) s m at)
 

@@ -3,7 +3,7 @@ use Rattle.std.specs.Prelude.{ℕ, ◌+◌, ℤ, pos, ◌+ℤ◌, Bool, true, fa
 use Rattle.c_tree.specs.declared.expression.BinaryMark.{BinaryMark}
 use Rattle.c_tree.specs.declared.expression.BinaryMark.TheVariants as binary
 use Rattle.operator_meaning.specs.declared.object.Object.{Object}
-use Rattle.rv_encode.specs.declared.instruction.Instr.{Instr}
+use Rattle.code_lines.specs.declared.word.Word.{Word}
 use Rattle.ir_arena.specs.Tree.{IrTree, Not, Binary}
 use Rattle.code_lines.specs.Pieces.{flush_code}
 use Rattle.code_jumps.specs.Jumps.{Test, Equal, Unequal, Less, NotLess, Reach, jump_where}
@@ -42,7 +42,7 @@ abbrev pub placed_by : {A : Type 0} → (turned : Bool) → A → A → A
 placed_by true one other = other
 placed_by false one other = one
 
-abbrev pub compared : Reach → (sense : Bool) → Comparison → (depth : ℕ) → (distance : ℤ) → List Instr
+abbrev pub compared : Reach → (sense : Bool) → Comparison → (depth : ℕ) → (distance : ℤ) → List Word
 compared reach sense how depth distance =
     jump_where reach sense how.test (placed_by how.turned (operand_register depth 0) (operand_register depth 1)) (placed_by how.turned (operand_register depth 1) (operand_register depth 0)) distance
 
@@ -50,19 +50,19 @@ compared reach sense how depth distance =
 
 module _ (objects : List Object) (l : Layout) (reach : Reach) (depth : ℕ) where
   -- two values are compared
-  abbrev pub relation_code : BinaryMark → (left right : IrTree) → (sense : Bool) → (lag : ℕ) → (distance : ℤ) → List Instr
+  abbrev pub relation_code : BinaryMark → (left right : IrTree) → (sense : Bool) → (lag : ℕ) → (distance : ℤ) → List Word
   relation_code mark left right sense lag distance =
       expression_code objects l left depth
       ++ (expression_code objects l right (depth + 1) ++ (fetches l depth 2 ++ (flush_code (lag + weight_of left + weight_of right) ++ compared reach sense (comparison_of mark) depth distance)))
 
   -- a value is compared with 0
-  abbrev pub value_code : IrTree → (sense : Bool) → (lag : ℕ) → (distance : ℤ) → List Instr
+  abbrev pub value_code : IrTree → (sense : Bool) → (lag : ℕ) → (distance : ℤ) → List Word
   value_code value sense lag distance =
       expression_code objects l value depth ++ (fetches l depth 1 ++ (flush_code (lag + weight_of value) ++ jump_where reach sense Unequal (operand_register depth 0) 0 distance))
 
   -- The code leads by so many words from its end where the condition holds as is wanted, and else to its end. The count does
   -- not lag behind at either place.
-  abbrev pub condition_code : IrTree → (sense : Bool) → (lag : ℕ) → (distance : ℤ) → List Instr
+  abbrev pub condition_code : IrTree → (sense : Bool) → (lag : ℕ) → (distance : ℤ) → List Word
   condition_code (Not part) sense lag distance = condition_code part (not sense) lag distance
   condition_code (Binary binary.Both left right) true lag distance =
       condition_code left false lag (pos (length (condition_code right true 0 distance))) ++ condition_code right true 0 distance

@@ -6,7 +6,7 @@ use Rattle.source_runs.specs.Runs.{holds}
 use Rattle.typed_meaning.specs.Expressions.{Setting, Called}
 use Rattle.ir_arena.specs.Tree.{IrTree, Not, Binary}
 use Rattle.tree_meaning.specs.Trees.{value_meaning}
-use Rattle.template_runs.specs.Machine.{StandHere}
+use Rattle.code_lines.specs.Words.{StandHere, Code}
 use Rattle.code_jumps.specs.Jumps.{Reach, met}
 use Rattle.code_runs.specs.Doing.{Bond, DoesIn, side}
 use Rattle.code_stacks.specs.Places.{Layout, IsLaidOut}
@@ -49,8 +49,8 @@ one_if_met sense value = if met sense (holds value) then 1 else 0
 -- From its first word the code evaluates the condition, and leads to the target where it holds as is wanted, and else to its
 -- end. There the count does not lag behind.
 abbrev pub ConditionsAreDone : Type 0
-ConditionsAreDone = (code : List ℕ) (turns : ℕ) (l : Layout) (here : Setting) (called : Called) (reach : Reach) (e : IrTree) (sense : Bool) (k lag : ℕ) (values : List ℤ) (distance : ℤ) (target : ℕ)
-    → IsLaidOut l → AreScalars here.objects l → is_condition l e ≡ true → length values + height_of_condition e ≤ l.depth → lag + weight_of_condition e < 2 ^ 31
+ConditionsAreDone = (code : Code) (turns : ℕ) (l : Layout) (here : Setting) (called : Called) (reach : Reach) (e : IrTree) (sense : Bool) (k lag : ℕ) (values : List ℤ) (distance : ℤ) (target : ℕ)
+    → IsLaidOut code l → AreScalars here.objects l → is_condition l e ≡ true → length values + height_of_condition e ≤ l.depth → lag + weight_of_condition e < 2 ^ 31
     → StandHere code k (condition_code here.objects l reach (length values) e sense lag distance)
     → pos target ≡ pos (k + length (condition_code here.objects l reach (length values) e sense lag distance)) +ℤ distance → target ≤ 16777216
     → DoesIn code turns (one_if_met sense) (With here.objects l k lag values) (value_meaning here called e)

@@ -1,5 +1,5 @@
 -- Operators over operands that are given.
-use Rattle.std.proofs.Common.{◌≡◌, ◌≢◌, ℕ, ◌+◌, ◌^◌, ◌<◌, ◌≤◌, ℤ, true, false, ◌&&◌, ◌==◌, nat_lt, List, [], ◌∷◌, ◌++◌, length, length-append, map, append_assoc, append-nil, refl, sym, ap, ◌∙◌, subst, inl, inr, arith}
+use Rattle.std.proofs.Common.{◌≡◌, ◌≢◌, ℕ, ◌+◌, ◌≤◌, ℤ, true, false, ◌&&◌, ◌==◌, List, [], ◌∷◌, ◌++◌, length, length-append, map, append_assoc, append-nil, refl, sym, ap, ◌∙◌, subst, inl, inr, arith}
 use Rattle.std.proofs.lemmas.Bool.{eqb-true, cases_Bool}
 use Rattle.std.proofs.lemmas.Bool.Decides.{nat_tests}
 use Rattle.sat_base.specs.declared.width.Width.{Width}
@@ -17,28 +17,31 @@ use Rattle.typed_meaning.specs.Expressions.{Setting, Called}
 use Rattle.ir_arena.specs.Tree.{IrTree, IrTrees, Constant, Read, Operate, Convert, Not, Invert, Binary, ReadFlag, end, more}
 use Rattle.tree_meaning.specs.Parts.{NodeMeaning, operated_with, operate_meaning}
 use Rattle.tree_meaning.specs.Trees.{node_meanings, value_meaning, argument_meaning}
-use Rattle.rv_encode.specs.declared.instruction.Instr.{Instr}
+use Rattle.code_lines.specs.declared.word.Word.{Word}
+use Rattle.code_lines.specs.Words.{StandHere, Code}
 use Rattle.rv_encode.specs.State.{MachineState, Running}
-use Rattle.template_runs.specs.Machine.{StandHere}
 use Rattle.code_runs.specs.Doing.{Bond, Comes, Does}
 use Rattle.code_runs.proofs.Parts.{in_turn}
-use Rattle.code_runs.proofs.Steps.{leads_later, leads_still}
 use Rattle.code_stacks.specs.Places.{Layout, IsLaidOut}
 use Rattle.code_stacks.specs.Agreement.{IsWith, With}
 use Rattle.code_stacks.proofs.Operands.{first_stands, second_stands}
 use Rattle.expression_code.specs.Code.{fits_sixteen, site_code, first_width, other_widths, convert_code, expression_code, operands_code, weight_of, weights_of}
 use Rattle.expression_code.specs.Laws.{AreScalars}
-use Rattle.expression_code.specs.Straight.{is_straight, are_straight, count_in, heights_of}
+use Rattle.expression_code.specs.Straight.{is_straight, are_straight, count_in, heights_of, is_numbered}
 use Rattle.expression_code.proofs.Operators.{op_done}
 use Rattle.expression_code.proofs.Placing.{placed, FitPlaces, placed_long, placed_fit, operands_placed, convert_done}
 use Rattle.expression_code.proofs.Leaves.{both_true, one_longer, some_height, Valued, DoesExpression, no_values, sixteen_by}
 use Rattle.expression_code.proofs.Pairs.{comes_as}
+use Rattle.code_runs.proofs.Steps.{passes_none, passes_still}
+use Rattle.expression_code.proofs.Sites.{IsTold}
+use Rattle.expression_code.proofs.Wordless.{told}
+use Rattle.operator_meaning.specs.declared.site.Form.TheVariants.{Flag}
 
-module _ (code : List ℕ) (turns : ℕ) (l : Layout) (laid : IsLaidOut l) (here : Setting) (called : Called) (scalars : AreScalars here.objects l) where
+module _ (code : Code) (turns : ℕ) (l : Layout) (laid : IsLaidOut code l) (here : Setting) (called : Called) (scalars : AreScalars here.objects l) where
   abbrev At : (k lag : ℕ) → List ℤ → Bond
   At k lag values = With here.objects l k lag values
 
-  abbrev code_of : IrTree → ℕ → List Instr
+  abbrev code_of : IrTree → ℕ → List Word
   code_of e depth = expression_code here.objects l e depth
 
   -- ---- operators
@@ -71,9 +74,6 @@ module _ (code : List ℕ) (turns : ℕ) (l : Layout) (laid : IsLaidOut l) (here
       unequal : (a b : ℕ) → (a == b) ≡ false → a ≢ b
       unequal a b apart e = grind (arith, nat_tests)
 
-  pub site_small : (site : ℕ) → nat_lt site 4294967296 ≡ true → site < 2 ^ 32
-  site_small site is = grind (arith, nat_tests)
-
   heights_count : (operands : IrTrees) → count_in operands ≤ heights_of operands
   heights_count end = omega arith
   heights_count (more first rest) = omega (arith, heights_count rest)
@@ -84,7 +84,7 @@ module _ (code : List ℕ) (turns : ℕ) (l : Layout) (laid : IsLaidOut l) (here
       let place : k ≡ k + 0 = omega arith in
       let late : lag ≡ lag + 0 = omega arith in (
         m,
-        leads_still code (Running m),
+        passes_still code s.sites (Running m),
         record {
           numbers = [];
           are = sym (append-nil done);
@@ -128,7 +128,7 @@ module _ (code : List ℕ) (turns : ℕ) (l : Layout) (laid : IsLaidOut l) (here
       (λ x s m valued.
       let placing = convert_done code here.objects l laid (k + length xs) (lag + weight_of e) values x width (fits_sixteen here.objects e) s m valued.1 (omega (arith, some_height e)) (second_stands code k xs cs head) valued.0 in
       let leaves = placing.0 in
-      (leaves.0, leads_later code (Running m) (Running leaves.0) leaves.1, (x, refl, subst (λ p. IsWith here.objects l p (lag + weight_of e) (values ++ converted width x ∷ []) s leaves.0) one leaves.2, placing.1))))
+      (leaves.0, passes_none code 0 s.sites (Running m) (Running leaves.0) leaves.1, (x, refl, subst (λ p. IsWith here.objects l p (lag + weight_of e) (values ++ converted width x ∷ []) s leaves.0) one leaves.2, placing.1))))
       (λ a s m b.
       let x = b.0 in
       let c = converted width x in
@@ -138,7 +138,7 @@ module _ (code : List ℕ) (turns : ℕ) (l : Layout) (laid : IsLaidOut l) (here
       let place : k + length (xs ++ cs) + length (operands_code here.objects l (other_widths widths) rest (length (values ++ c ∷ []))) ≡ k + length ((xs ++ cs) ++ ys) =
       ap (λ d. k + length (xs ++ cs) + length (operands_code here.objects l (other_widths widths) rest d)) deeper ∙ omega (arith, length-append (xs ++ cs) ys) in
       let late : lag + weight_of e + weights_of rest ≡ lag + (weight_of e + weights_of rest) = omega arith in
-      comes_as code turns l laid here called scalars (Running m) _ after (gathered (done ++ a ∷ []) others s)
+      comes_as code turns l laid here called scalars (Running m) s.sites _ after (gathered (done ++ a ∷ []) others s)
       (λ givens t n g. record {
         numbers = x ∷ g.numbers;
         are = g.are ∙ append_assoc done (a ∷ []) (map Number g.numbers) ∙ ap (λ v. done ++ v ∷ map Number g.numbers) b.1;
@@ -159,8 +159,8 @@ module _ (code : List ℕ) (turns : ℕ) (l : Layout) (laid : IsLaidOut l) (here
 
   pub call_does : (op : Op) (site weight : ℕ) (operands : IrTrees) → DoesOperands operands → DoesExpression code turns l laid here called scalars (Operate site (kind.Call op) operands weight)
   call_does op site weight operands does k lag values straight room stands =
-      let outer = both_true (((count_in operands == arity_of op)) && nat_lt site 4294967296) (are_straight l operands) straight in
-      let inner = both_true (count_in operands == arity_of op) (nat_lt site 4294967296) outer.0 in
+      let outer = both_true (((count_in operands == arity_of op)) && is_numbered l site (kind.Call op)) (are_straight l operands) straight in
+      let inner = both_true (count_in operands == arity_of op) (is_numbered l site (kind.Call op)) outer.0 in
       let count : count_in operands ≡ arity_of op = eqb-true (count_in operands) (arity_of op) inner.0 in
       let depth = length values in
       let takes = (row_of op).takes in
@@ -183,11 +183,11 @@ module _ (code : List ℕ) (turns : ℕ) (l : Layout) (laid : IsLaidOut l) (here
       let standing : StandHere code (k + length xs) (site_code l depth (length args) site (kind.Call op)) = subst (λ n. StandHere code (k + length xs) (site_code l depth n site (kind.Call op))) (sym long) (second_stands code k xs zs stands) in
       let most = heights_count operands in
       let there : k + length xs + length (site_code l depth (length args) site (kind.Call op)) ≡ place = ap (λ n. k + length xs + length (site_code l depth n site (kind.Call op))) long ∙ whole in
-      subst (λ list. Comes code turns (Running m) (λ v. 0) after (operated_with weight site op list s)) (sym same)
-      (comes_as code turns l laid here called scalars (Running m) _ after (operated_with weight site op args s)
+      subst (λ list. Comes code turns (Running m) s.sites (λ v. 0) after (operated_with weight site op list s)) (sym same)
+      (comes_as code turns l laid here called scalars (Running m) s.sites _ after (operated_with weight site op args s)
       (λ v t n done. (
         subst (λ g. IsWith here.objects l place g (values ++ v ∷ []) t n) late (subst (λ p. IsWith here.objects l p (lag + weights_of operands + weight) (values ++ v ∷ []) t n) there done.0),
         sixteen_by code turns l laid here called scalars (row_of op).gives v done.1,
       ))
       (op_done code turns here.objects l laid (k + length xs) (lag + weights_of operands) values args op site weight s m long (omega (arith, long, few)) (placed_fit takes g.numbers numbers g.fit)
-      (omega (arith, long, count, most)) (omega arith) (site_small site inner.1) standing g.on_stack))))
+      (omega (arith, long, count, most)) (omega arith) (subst (IsTold code (kind.Call op) Flag site depth) (sym long) (told code l laid (kind.Call op) site depth refl inner.1)) standing g.on_stack))))

@@ -8,18 +8,17 @@ use Rattle.source_runs.specs.Marks.{truth, binary_meaning, both_meaning, decided
 use Rattle.source_runs.specs.Runs.{Run, gives, ◌>>=◌, chosen, choosing, holds}
 use Rattle.source_runs.specs.State.{SourceState}
 use Rattle.typed_meaning.specs.Expressions.{Setting, Called}
-use Rattle.rv_encode.specs.declared.instruction.Instr.{Instr}
+use Rattle.code_lines.specs.declared.word.Word.{Word}
+use Rattle.code_lines.specs.Words.{StandHere, Code}
 use Rattle.rv_encode.specs.State.{MachineState, Running}
-use Rattle.rv_encode.specs.Runs.{Leads}
-use Rattle.rv_encode.proofs.Leads.{leads_nowhere}
+use Rattle.code_lines.specs.Leading.{Leads}
+use Rattle.code_lines.proofs.Leading.{leads_nowhere, leads_at_all, leads_least}
 use Rattle.ir_arena.specs.Tree.{IrTree, Binary, Choose}
 use Rattle.tree_meaning.specs.Trees.{value_meaning}
-use Rattle.template_runs.specs.Machine.{StandHere}
 use Rattle.code_lines.specs.Pieces.{flush_code, IsNoCount}
 use Rattle.code_jumps.specs.Jumps.{Unequal, is_near, reach_of}
 use Rattle.code_runs.specs.Doing.{Bond, Comes, Does, side}
 use Rattle.code_runs.proofs.Parts.{in_turn, later, moves_on}
-use Rattle.code_runs.proofs.Steps.{leads_at_all, leads_later, leads_least}
 use Rattle.code_stacks.specs.Places.{Layout, IsLaidOut}
 use Rattle.code_stacks.specs.Agreement.{IsWith, With}
 use Rattle.code_stacks.specs.Operands.{operand_register}
@@ -33,6 +32,7 @@ use Rattle.expression_code.proofs.Deciding.{decided, flush_moves, leaves}
 use Rattle.expression_code.proofs.Leaves.{DoesExpression, Valued, both_true, constant_does, some_height}
 use Rattle.expression_code.proofs.Placing.{top_fits}
 use Rattle.expression_code.proofs.Values.{tells}
+use Rattle.code_runs.proofs.Steps.{passes_none}
 
 pub no_count : (depth operand : ℕ) → IsNoCount (operand_register depth operand)
 no_count depth operand =
@@ -49,22 +49,22 @@ no_zero = ((λ e. cc), (λ e. cc), (λ e. cc), (λ e. cc))
 light : (weight : ℕ) → is_light weight ≡ true → weight < 2 ^ 31
 light weight is = grind (arith, nat_tests)
 
-module _ (code : List ℕ) (turns : ℕ) (l : Layout) (laid : IsLaidOut l) (here : Setting) (called : Called) (scalars : AreScalars here.objects l) where
+module _ (code : Code) (turns : ℕ) (l : Layout) (laid : IsLaidOut code l) (here : Setting) (called : Called) (scalars : AreScalars here.objects l) where
   abbrev At : (k lag : ℕ) → List ℤ → Bond
   At k lag values = With here.objects l k lag values
 
-  abbrev code_of : IrTree → ℕ → List Instr
+  abbrev code_of : IrTree → ℕ → List Word
   code_of e depth = expression_code here.objects l e depth
 
   -- from values on the stack, code leaves one more, and the count lags behind as before
-  abbrev Makes : List ℤ → List Instr → Run ℤ → Type 0
+  abbrev Makes : List ℤ → List Word → Run ℤ → Type 0
   Makes values words run = (k lag : ℕ) → StandHere code k words → Does code turns (At k lag values) run (λ y. At (k + length words) lag (values ++ y ∷ []))
 
   -- ---- what is chosen
 
-  module _ (cond : IrTree) (does : DoesExpression code turns l laid here called scalars cond) (this other : List Instr) (run run2 : Run ℤ) (values : List ℤ) (next : ℤ → Run ℤ)
+  module _ (cond : IrTree) (does : DoesExpression code turns l laid here called scalars cond) (this other : List Word) (run run2 : Run ℤ) (values : List ℤ) (next : ℤ → Run ℤ)
       (holding : (x : ℤ) → holds x ≡ true → next x ≡ run) (failing : (x : ℤ) → holds x ≡ false → next x ≡ run2) (makes : Makes values this run) (makes_other : Makes values other run2) where
-    abbrev over : List Instr
+    abbrev over : List Word
     over = over_code l (length values) (weight_of cond) (length (this ++ pass_code (length other)))
 
     abbrev ends : (k lag : ℕ) → ℤ → Bond
@@ -92,9 +92,9 @@ module _ (code : List ℕ) (turns : ℕ) (l : Layout) (laid : IsLaidOut l) (here
         subst (λ e. Does code turns (At (k + length first) lag values) run2 (ends e lag)) whole (makes_other (k + length first) lag (second_stands code k first other stands))
 
     by : (b : Bool) (x : ℤ) (k lag : ℕ) (s : SourceState) (m : MachineState) → holds x ≡ b → StandHere code k ((this ++ pass_code (length other)) ++ other)
-        → side (At (k + length (this ++ pass_code (length other))) lag values) (At k lag values) (not b) s m → Comes code turns (Running m) (λ y. 0) (ends (k + length ((this ++ pass_code (length other)) ++ other)) lag) (next x s)
-    by true x k lag s m is stands at = subst (λ r. Comes code turns (Running m) (λ y. 0) (ends (k + length ((this ++ pass_code (length other)) ++ other)) lag) (r s)) (sym (holding x is)) (first_does k lag stands s m at)
-    by false x k lag s m is stands at = subst (λ r. Comes code turns (Running m) (λ y. 0) (ends (k + length ((this ++ pass_code (length other)) ++ other)) lag) (r s)) (sym (failing x is)) (second_does k lag stands s m at)
+        → side (At (k + length (this ++ pass_code (length other))) lag values) (At k lag values) (not b) s m → Comes code turns (Running m) s.sites (λ y. 0) (ends (k + length ((this ++ pass_code (length other)) ++ other)) lag) (next x s)
+    by true x k lag s m is stands at = subst (λ r. Comes code turns (Running m) s.sites (λ y. 0) (ends (k + length ((this ++ pass_code (length other)) ++ other)) lag) (r s)) (sym (holding x is)) (first_does k lag stands s m at)
+    by false x k lag s m is stands at = subst (λ r. Comes code turns (Running m) s.sites (λ y. 0) (ends (k + length ((this ++ pass_code (length other)) ++ other)) lag) (r s)) (sym (failing x is)) (second_does k lag stands s m at)
 
     pub choice_does : (k lag : ℕ) → is_straight l cond ≡ true → length values + height_of cond ≤ l.depth → is_light (weight_of cond) ≡ true
         → StandHere code k (chosen_code l (length values) (weight_of cond) (code_of cond (length values)) this other)
@@ -117,8 +117,8 @@ module _ (code : List ℕ) (turns : ℕ) (l : Layout) (laid : IsLaidOut l) (here
         (λ x s m valued.
         let leads = decided code here.objects l laid (reach_of (length first)) false Unequal (operand_register depth 0) 0 at_over (lag + weight_of cond) lag (weight_of cond) values (x ∷ []) x (pos 0) (pos (length first)) (at_first + length first) s m
         (omega arith) (omega (arith, some_height cond)) refl (light (weight_of cond) small) (no_count depth 0) no_zero (λ v are zero. (are 0 (omega arith), zero)) (first_stands code at_over over (first ++ other) standing) (omega (arith, ints)) near valued.0 in
-        later code 0 turns turns (Running m) leads.0 (λ y. 0) (λ y. 0) (ends end lag) (next x s) (omega arith) (λ y. omega arith) (leads_least code (if not (holds x) then 1 else 0) 0 (Running m) (Running leads.0) (omega arith) leads.1)
-        (subst (λ e. Comes code turns (Running leads.0) (λ y. 0) (ends e lag) (next x s)) whole (by (holds x) x at_first lag s leads.0 refl branches leads.2)))
+        later code 0 turns turns s.sites s.sites (Running m) leads.0 (λ y. 0) (λ y. 0) (ends end lag) (next x s) (omega arith) (λ y. omega arith) (passes_none code 0 s.sites (Running m) (Running leads.0) (leads_least code (if not (holds x) then 1 else 0) 0 (Running m) (Running leads.0) (omega arith) leads.1))
+        (subst (λ e. Comes code turns (Running leads.0) s.sites (λ y. 0) (ends e lag) (next x s)) whole (by (holds x) x at_first lag s leads.0 refl branches leads.2)))
 
   -- ---- what is chosen from
 
@@ -154,8 +154,8 @@ module _ (code : List ℕ) (turns : ℕ) (l : Layout) (laid : IsLaidOut l) (here
       let z = truth (not (int_eq y (pos 0))) in
       let told = computed code here.objects l laid (k + length xs) lag values (y ∷ []) z (truth_line depth) s m (omega arith) (omega (arith, some_height e)) (omega (arith, some_height e)) (second_stands code k xs line stands) at
       (tells code here.objects l laid depth s.kept.overflow y (top_fits code here.objects l laid (k + length xs) lag values y s m at)) in
-      subst (λ r. Comes code turns (Running m) (λ v. 0) (λ v. At place lag (values ++ v ∷ [])) (r s)) (sym (is y))
-      (told.0, leads_later code (Running m) (Running told.0) told.1, subst (λ n. IsWith here.objects l n lag (values ++ z ∷ []) s told.0) whole told.2))
+      subst (λ r. Comes code turns (Running m) s.sites (λ v. 0) (λ v. At place lag (values ++ v ∷ [])) (r s)) (sym (is y))
+      (told.0, passes_none code 0 s.sites (Running m) (Running told.0) told.1, subst (λ n. IsWith here.objects l n lag (values ++ z ∷ []) s told.0) whole told.2))
 
   -- ---- the three
 

@@ -6,11 +6,12 @@ use Rattle.std.proofs.lemmas.Bool.Decides.{nat_tests}
 use Rattle.std.proofs.lemmas.List.{get_or-append-add}
 use Rattle.operator_meaning.specs.declared.object.Object.{Object}
 use Rattle.source_runs.specs.State.{Kept, SourceState}
-use Rattle.rv_encode.specs.declared.instruction.Instr.{Instr}
+use Rattle.code_lines.specs.declared.word.Word.{Word}
+use Rattle.code_lines.specs.Words.{StandHere, Code}
 use Rattle.rv_encode.specs.State.{MachineState, Running, register}
-use Rattle.rv_encode.specs.Runs.{Leads}
-use Rattle.rv_encode.proofs.Leads.{leads_then}
-use Rattle.template_runs.specs.Machine.{StandHere, IsBefore}
+use Rattle.code_lines.specs.Leading.{Leads}
+use Rattle.code_lines.proofs.Leading.{leads_then}
+use Rattle.template_runs.specs.Machine.{IsBefore}
 use Rattle.code_lines.specs.Lines.{File, file_after, is_line}
 use Rattle.code_lines.proofs.Lines.{lines_run}
 use Rattle.code_stacks.specs.Places.{Layout, IsLaidOut, stack_register, value_of, HasStack}
@@ -22,32 +23,36 @@ use Rattle.code_stacks.proofs.Operands.{first_stands, second_stands, IsReached, 
 use Rattle.expression_code.specs.Code.{around}
 
 -- the machine comes to the end of a part, with these values on the stack, and the source as it was
-abbrev pub Leaves : (code : List ℕ) → List Object → Layout → (end lag : ℕ) → List ℤ → SourceState → MachineState → Type 0
+abbrev pub Leaves : (code : Code) → List Object → Layout → (end lag : ℕ) → List ℤ → SourceState → MachineState → Type 0
 Leaves code objects l end lag values s m = (t : MachineState) × Leads code (Running m) (Running t) × IsWith objects l end lag values s t
 
 differ : (a b : ℕ) → (a == b) ≡ false → a ≢ b
 differ a b apart e = grind (arith, nat_tests)
 
-module _ (code : List ℕ) (objects : List Object) (l : Layout) (laid : IsLaidOut l) where
+module _ (code : Code) (objects : List Object) (l : Layout) (laid : IsLaidOut code l) where
   pub reached : (lag : ℕ) (kept : Kept) (m : MachineState) → Agrees objects l lag kept m → IsReached code l laid m
   reached lag kept m agrees = record { based = agrees.based; size = agrees.size }
 
   -- a number that was computed goes to its place
-  pub concluded : (k lag : ℕ) (values : List ℤ) (x : ℤ) (s : SourceState) (m u : MachineState) → length values < l.depth → StandHere code k (finish_code l (length values)) → Leads code (Running m) (Running u)
+  pub concluded : (k lag : ℕ) (values : List ℤ) (x : ℤ) (s : SourceState) (m u : MachineState) → length values < l.depth → StandHere code k (finish_code l (length values))
       → IsBefore k u → Agrees objects l lag s.kept u → Keeps l (length values) m u → HasStack l values m → register u (stack_register (length values)) ≡ x → FitsSigned w32 x
-      → Leaves code objects l (k + length (finish_code l (length values))) lag (values ++ x ∷ []) s m
-  concluded k lag values x s m u room stands leads before agrees keeps has result fits =
+      → Leaves code objects l (k + length (finish_code l (length values))) lag (values ++ x ∷ []) s u
+  concluded k lag values x s m u room stands before agrees keeps has result fits =
       let done = finished code l laid k (length values) x u stands before (reached lag s.kept u agrees) room result fits in
       let v = done.0 in
       let last = done.2 in (
         v,
-        leads_then code (Running m) (Running u) (Running v) leads done.1,
+        done.1,
         record {
           before = last.before;
           agrees = agrees_kept objects l lag (length values) s.kept u v last.keeps last.flag agrees;
           stack = pushed l values x m v (keeps_both l (length values) m u v keeps last.keeps) has last.value fits;
         },
       )
+
+  -- and so from where it was computed
+  pub concluded_from : (end lag : ℕ) (values : List ℤ) (s : SourceState) (m u : MachineState) → Leads code (Running m) (Running u) → Leaves code objects l end lag values s u → Leaves code objects l end lag values s m
+  concluded_from end lag values s m u leads leaves = (leaves.0, leads_then code (Running m) (Running u) (Running leaves.0) leads leaves.1, leaves.2)
 
   -- ---- operands in registers
 
@@ -81,14 +86,14 @@ module _ (code : List ℕ) (objects : List Object) (l : Layout) (laid : IsLaidOu
   -- ---- lines
 
   -- a line that computes a number of them
-  pub record Computes (depth : ℕ) (args : List ℤ) (overflow : ℤ) (line : List Instr) (x : ℤ) : Type 0 where
+  pub record Computes (depth : ℕ) (args : List ℤ) (overflow : ℤ) (line : List Word) (x : ℤ) : Type 0 where
     pub sets : is_line line ≡ true
     pub gives : (f : File) → AreIn depth args f → f 0 ≡ pos 0 → f 27 ≡ overflow → file_after line f (stack_register depth) ≡ x
     pub others : (f : File) (n : ℕ) → n ≢ stack_register depth → n ≢ 5 → file_after line f n ≡ f n
     pub fits : FitsSigned w32 x
 
   -- its values are those below the operands, and what it computes
-  pub computed : (k lag : ℕ) (values args : List ℤ) (x : ℤ) (line : List Instr) (s : SourceState) (m : MachineState) → length args ≤ 3 → length values + length args ≤ l.depth → length values < l.depth
+  pub computed : (k lag : ℕ) (values args : List ℤ) (x : ℤ) (line : List Word) (s : SourceState) (m : MachineState) → length args ≤ 3 → length values + length args ≤ l.depth → length values < l.depth
       → StandHere code k (around l (length values) (length args) line) → IsWith objects l k lag (values ++ args) s m → Computes (length values) args s.kept.overflow line x
       → Leaves code objects l (k + length (around l (length values) (length args) line)) lag (values ++ x ∷ []) s m
   computed k lag values args x line s m few all_room room stands is computes =
@@ -113,5 +118,5 @@ module _ (code : List ℕ) (objects : List Object) (l : Layout) (laid : IsLaidOu
       let gives = left.file (stack_register depth) ∙ computes.gives (register t) (are_in k lag values args s m is (k + length fetching) t at) at.before.zero_is (flag_before ∙ is.agrees.flag) in
       let whole : k + length fetching + length line + length finishing ≡ k + length (fetching ++ (line ++ finishing)) = omega (arith, length-append fetching (line ++ finishing), length-append line finishing) in
       subst (λ n. Leaves code objects l n lag (values ++ x ∷ []) s m) whole
-      (concluded (k + length fetching + length line) lag values x s m u room (second_stands code (k + length fetching) line finishing later)
-      (leads_then code (Running m) (Running t) (Running u) ready.1 run.1) left.before agrees keeps (lowered l values args m m (keeps_same l depth m) is.stack) gives computes.fits)
+      (concluded_from (k + length fetching + length line + length finishing) lag (values ++ x ∷ []) s m u (leads_then code (Running m) (Running t) (Running u) ready.1 run.1)
+      (concluded (k + length fetching + length line) lag values x s m u room (second_stands code (k + length fetching) line finishing later) left.before agrees keeps (lowered l values args m m (keeps_same l depth m) is.stack) gives computes.fits))

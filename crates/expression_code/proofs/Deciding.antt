@@ -8,17 +8,17 @@ use Rattle.std.proofs.lemmas.Int.{ints}
 use Rattle.operator_meaning.specs.declared.object.Object.{Object}
 use Rattle.source_runs.specs.State.{SourceState}
 use Rattle.rv_encode.specs.State.{MachineState, Running, register}
-use Rattle.rv_encode.specs.Runs.{Leads}
-use Rattle.rv_encode.proofs.Leads.{leads_then}
-use Rattle.template_runs.specs.Machine.{StandHere, IsBefore}
+use Rattle.code_lines.specs.Leading.{Leads, LeadsLater}
+use Rattle.code_lines.proofs.Leading.{leads_then, leads_both}
+use Rattle.code_lines.specs.Words.{StandHere, Code}
+use Rattle.template_runs.specs.Machine.{IsBefore}
 use Rattle.code_jumps.specs.Jumps.{Test, passes, Reach, sensed, met, branch_code, jump_where, past_code, ComesBy, IsThere}
 use Rattle.code_jumps.proofs.Branches.{branches_are_done, sensed_passes, same_length}
 use Rattle.code_jumps.proofs.Jumps.{passes_words}
 use Rattle.code_lines.specs.Pieces.{flush_code, count_in, HasHalves, IsNoCount}
 use Rattle.code_lines.proofs.Flushes.{flushed}
 use Rattle.code_memory.specs.Memory.{word_in}
-use Rattle.code_runs.specs.Doing.{LeadsLater, Moves, side}
-use Rattle.code_runs.proofs.Steps.{leads_later, leads_both}
+use Rattle.code_runs.specs.Doing.{Moves, side}
 use Rattle.code_stacks.specs.Places.{Layout, IsLaidOut, stack_register, kept_slot}
 use Rattle.code_stacks.specs.Agreement.{IsWith, With}
 use Rattle.code_stacks.specs.Operands.{fetches}
@@ -76,7 +76,7 @@ with_after objects l k at lag rest weight values args s m v parts is after =
           (value_low l (nat_lt place 5) place m v refl after.values after.memory ∙ below.0, below.1);
     }
 
-module _ (code : List ℕ) (objects : List Object) (l : Layout) (laid : IsLaidOut l) where
+module _ (code : Code) (objects : List Object) (l : Layout) (laid : IsLaidOut code l) where
   -- where a comparison of the topmost values leads
   pub decided : (reach : Reach) (sense : Bool) (test : Test) (rs1 rs2 : ℕ) (k lag rest weight : ℕ) (values args : List ℤ) (a b distance : ℤ) (target : ℕ) (s : SourceState) (m : MachineState)
       → length args ≤ 3 → length values + length args ≤ l.depth → lag ≡ rest + weight → weight < 2 ^ 31 → IsNoCount rs1 → IsNoCount rs2
@@ -114,7 +114,7 @@ module _ (code : List ℕ) (objects : List Object) (l : Layout) (laid : IsLaidOu
       (omega (arith, ints, target_is, whole, long)) near in
       let tested : passes (sensed sense test) (register u rs1) (register u rs2) ≡ met sense (passes test a b) =
       ap (λ x. passes (sensed sense test) x (register u rs2)) first ∙ ap (λ y. passes (sensed sense test) a y) second ∙ sensed_passes sense test a b in
-      let up_leads = leads_later code (Running m) (Running u) (leads_then code (Running m) (Running t) (Running u) ready.1 flush.1) in
+      let up_leads = leads_then code (Running m) (Running t) (Running u) ready.1 flush.1 in
       by (met sense (passes test a b)) (k + length fetching + length flushing + length jump) end u whole up_leads
       (λ place v way. record {
         before = way.before;
@@ -189,7 +189,7 @@ module _ (code : List ℕ) (objects : List Object) (l : Layout) (laid : IsLaidOu
       let way = jumped.2 in
       let up = flush.2 in (
         v,
-        leads_both code 0 1 (Running m) (Running u) (Running v) (leads_later code (Running m) (Running u) flush.1) jumped.1,
+        leads_both code 0 1 (Running m) (Running u) (Running v) flush.1 jumped.1,
         with_after objects l target k lag rest weight values args s m v parts at (record {
           before = way.before;
           count = ap (λ x. cast_unsigned w32 (register v 25) * 2 ^ 32 + cast_unsigned w32 x) (way.others 24 (eqb-false 24 5 refl)) ∙ ap (λ x. cast_unsigned w32 x * 2 ^ 32 + cast_unsigned w32 (register u 24)) (way.others 25 (eqb-false 25 5 refl)) ∙ up.count;

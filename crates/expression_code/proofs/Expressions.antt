@@ -1,5 +1,5 @@
 -- The code of an expression does what the expression does.
-use Rattle.std.proofs.Common.{◌≡◌, ℕ, ◌+◌, ◌+ℤ◌, ◌-ℤ◌, ◌*ℤ◌, true, false, ◌==◌, nat_lt, List, refl, arith}
+use Rattle.std.proofs.Common.{◌≡◌, ℕ, ◌+◌, ◌+ℤ◌, ◌-ℤ◌, ◌*ℤ◌, true, false, ◌==◌, refl, arith}
 use Rattle.std.specs.Prelude.{FitsSigned, neg_ℤ}
 use Rattle.std.specs.Int.{w16}
 use Rattle.std.proofs.lemmas.Bool.Decides.{nat_tests}
@@ -13,14 +13,16 @@ use Rattle.ir_arena.specs.Tree.{IrTree, IrTrees, Constant, Read, Operate, Conver
 use Rattle.tree_meaning.specs.Parts.{operate_meaning}
 use Rattle.code_stacks.specs.Places.{Layout, IsLaidOut}
 use Rattle.expression_code.specs.Laws.{AreScalars}
-use Rattle.expression_code.specs.Straight.{is_straight, are_straight, count_in}
+use Rattle.expression_code.specs.Straight.{is_straight, are_straight, count_in, is_numbered}
 use Rattle.expression_code.proofs.Leaves.{both_true, DoesExpression, constant_does, flag_does, variable_does, convert_does, not_does, invert_does}
 use Rattle.expression_code.proofs.Choices.{both_does, either_does, choose_does}
 use Rattle.expression_code.proofs.Pairs.{binary_does}
-use Rattle.expression_code.proofs.Calls.{DoesOperands, site_small, no_operands, some_operands, call_does}
+use Rattle.expression_code.proofs.Calls.{DoesOperands, no_operands, some_operands, call_does}
+use Rattle.expression_code.proofs.Wordless.{told}
 use Rattle.expression_code.proofs.Arithmetic.{two_plain, one_plain, sum_plain, difference_plain, product_plain, opposite_plain}
+use Rattle.code_lines.specs.Words.{Code}
 
-module _ (code : List ℕ) (turns : ℕ) (l : Layout) (laid : IsLaidOut l) (here : Setting) (called : Called) (scalars : AreScalars here.objects l) where
+module _ (code : Code) (turns : ℕ) (l : Layout) (laid : IsLaidOut code l) (here : Setting) (called : Called) (scalars : AreScalars here.objects l) where
   -- ---- sites
 
   abbrev operate : SiteKind → (site weight : ℕ) → IrTrees → IrTree
@@ -29,26 +31,26 @@ module _ (code : List ℕ) (turns : ℕ) (l : Layout) (laid : IsLaidOut l) (here
   sum_does : (site weight : ℕ) (left right : IrTree) → DoesExpression code turns l laid here called scalars left → DoesExpression code turns l laid here called scalars right → DoesExpression code turns l laid here called scalars (operate kind.Sum site weight (more left (more right end)))
   unfolding operate_meaning binary_meaning both_meaning
   sum_does site weight left right does does_right k lag values straight room stands =
-      let parts = both_true (nat_lt site 4294967296) (are_straight l (more left (more right end))) straight in
-      two_plain code turns l laid here called scalars kind.Sum site left right does does_right (λ x y. x +ℤ y) (sum_plain code turns l laid here called scalars) (site_small code turns l laid here called scalars site parts.0) k lag values (λ y. false ≡ true → FitsSigned w16 y) (λ y e. cc) parts.1 (omega arith) stands
+      let parts = both_true (is_numbered l site kind.Sum) (are_straight l (more left (more right end))) straight in
+      two_plain code turns l laid here called scalars kind.Sum site left right does does_right (λ x y. x +ℤ y) (sum_plain code turns l laid here called scalars) (λ depth. told code l laid kind.Sum site depth refl parts.0) k lag values (λ y. false ≡ true → FitsSigned w16 y) (λ y e. cc) parts.1 (omega arith) stands
 
   difference_does : (site weight : ℕ) (left right : IrTree) → DoesExpression code turns l laid here called scalars left → DoesExpression code turns l laid here called scalars right → DoesExpression code turns l laid here called scalars (operate kind.Difference site weight (more left (more right end)))
   unfolding operate_meaning binary_meaning both_meaning
   difference_does site weight left right does does_right k lag values straight room stands =
-      let parts = both_true (nat_lt site 4294967296) (are_straight l (more left (more right end))) straight in
-      two_plain code turns l laid here called scalars kind.Difference site left right does does_right (λ x y. x -ℤ y) (difference_plain code turns l laid here called scalars) (site_small code turns l laid here called scalars site parts.0) k lag values (λ y. false ≡ true → FitsSigned w16 y) (λ y e. cc) parts.1 (omega arith) stands
+      let parts = both_true (is_numbered l site kind.Difference) (are_straight l (more left (more right end))) straight in
+      two_plain code turns l laid here called scalars kind.Difference site left right does does_right (λ x y. x -ℤ y) (difference_plain code turns l laid here called scalars) (λ depth. told code l laid kind.Difference site depth refl parts.0) k lag values (λ y. false ≡ true → FitsSigned w16 y) (λ y e. cc) parts.1 (omega arith) stands
 
   product_does : (site weight : ℕ) (left right : IrTree) → DoesExpression code turns l laid here called scalars left → DoesExpression code turns l laid here called scalars right → DoesExpression code turns l laid here called scalars (operate kind.Product site weight (more left (more right end)))
   unfolding operate_meaning binary_meaning both_meaning
   product_does site weight left right does does_right k lag values straight room stands =
-      let parts = both_true (nat_lt site 4294967296) (are_straight l (more left (more right end))) straight in
-      two_plain code turns l laid here called scalars kind.Product site left right does does_right (λ x y. x *ℤ y) (product_plain code turns l laid here called scalars) (site_small code turns l laid here called scalars site parts.0) k lag values (λ y. false ≡ true → FitsSigned w16 y) (λ y e. cc) parts.1 (omega arith) stands
+      let parts = both_true (is_numbered l site kind.Product) (are_straight l (more left (more right end))) straight in
+      two_plain code turns l laid here called scalars kind.Product site left right does does_right (λ x y. x *ℤ y) (product_plain code turns l laid here called scalars) (λ depth. told code l laid kind.Product site depth refl parts.0) k lag values (λ y. false ≡ true → FitsSigned w16 y) (λ y e. cc) parts.1 (omega arith) stands
 
   opposite_does : (site weight : ℕ) (part : IrTree) → DoesExpression code turns l laid here called scalars part → DoesExpression code turns l laid here called scalars (operate kind.Opposite site weight (more part end))
   unfolding operate_meaning unary_meaning
   opposite_does site weight part does k lag values straight room stands =
-      let parts = both_true (nat_lt site 4294967296) (are_straight l (more part end)) straight in
-      one_plain code turns l laid here called scalars kind.Opposite site part does (λ x. neg_ℤ x) (opposite_plain code turns l laid here called scalars) (site_small code turns l laid here called scalars site parts.0) k lag values (λ y. false ≡ true → FitsSigned w16 y) (λ y e. cc) parts.1 (omega arith) stands
+      let parts = both_true (is_numbered l site kind.Opposite) (are_straight l (more part end)) straight in
+      one_plain code turns l laid here called scalars kind.Opposite site part does (λ x. neg_ℤ x) (opposite_plain code turns l laid here called scalars) (λ depth. told code l laid kind.Opposite site depth refl parts.0) k lag values (λ y. false ≡ true → FitsSigned w16 y) (λ y e. cc) parts.1 (omega arith) stands
 
   -- ---- the whole
 

@@ -18,14 +18,13 @@ use Rattle.source_runs.specs.State.{SourceState, converted, number_at, location}
 use Rattle.typed_meaning.specs.Expressions.{Setting, Called}
 use Rattle.ir_arena.specs.Tree.{IrTree, Constant, Read, Operate, Convert, Not, Invert, Binary, Choose, ReadFlag, Variable}
 use Rattle.tree_meaning.specs.Trees.{value_meaning}
-use Rattle.rv_encode.specs.declared.instruction.Instr.{Instr}
-use Rattle.rv_encode.specs.declared.instruction.Instr.TheVariants.{Addi}
+use Rattle.code_lines.specs.declared.word.Word.{Word}
+use Rattle.code_lines.specs.Words.{StandHere, Code}
+use Rattle.code_lines.specs.Own.{Addi}
 use Rattle.rv_encode.specs.State.{MachineState, Running, register}
-use Rattle.template_runs.specs.Machine.{StandHere}
 use Rattle.code_lines.specs.Pieces.{number_code}
 use Rattle.code_runs.specs.Doing.{Bond, Comes, Does}
 use Rattle.code_runs.proofs.Parts.{in_turn}
-use Rattle.code_runs.proofs.Steps.{leads_later}
 use Rattle.code_stacks.specs.Places.{Layout, IsLaidOut, stack_register}
 use Rattle.code_memory.specs.Memory.{load_code, word_in}
 use Rattle.code_memory.proofs.Accesses.{loads_are_done}
@@ -38,9 +37,10 @@ use Rattle.expression_code.specs.Code.{has_sixteen, is_sixteen, fits_sixteen, ar
 use Rattle.expression_code.specs.Laws as laws
 use Rattle.expression_code.specs.Laws.{AreScalars}
 use Rattle.expression_code.specs.Straight.{is_number, is_straight, height_of}
-use Rattle.expression_code.proofs.Computing.{Leaves, computed, concluded, IsChanged, five, result, changed_spare}
+use Rattle.expression_code.proofs.Computing.{Leaves, computed, concluded, IsChanged, five, result, changed_spare, concluded_from}
 use Rattle.expression_code.proofs.Placing.{top_fits, convert_done}
 use Rattle.expression_code.proofs.Values.{makes_number, reads_flag, negates, inverts}
+use Rattle.code_runs.proofs.Steps.{passes_none}
 
 pub both_true : (a b : Bool) → (a && b) ≡ true → (a ≡ true) × (b ≡ true)
 both_true true b e = (refl, e)
@@ -68,11 +68,11 @@ some_height e = omega arith
 differ_flag : ◌≢◌ {A = ℕ} 27 5
 differ_flag e = cc
 
-module _ (code : List ℕ) (turns : ℕ) (l : Layout) (laid : IsLaidOut l) (here : Setting) (called : Called) (scalars : AreScalars here.objects l) where
+module _ (code : Code) (turns : ℕ) (l : Layout) (laid : IsLaidOut code l) (here : Setting) (called : Called) (scalars : AreScalars here.objects l) where
   abbrev At : (k lag : ℕ) → List ℤ → Bond
   At k lag values = With here.objects l k lag values
 
-  abbrev code_of : IrTree → ℕ → List Instr
+  abbrev code_of : IrTree → ℕ → List Word
   code_of e depth = expression_code here.objects l e depth
 
   abbrev pub Valued : (place lag : ℕ) → List ℤ → IrTree → ℤ → Bond
@@ -88,14 +88,14 @@ module _ (code : List ℕ) (turns : ℕ) (l : Layout) (laid : IsLaidOut l) (here
   -- ---- what is left is given
 
   pub given : (place lag : ℕ) (values : List ℤ) (x : ℤ) (P : ℤ → Type 0) (s : SourceState) (m : MachineState) → Leaves code here.objects l place lag (values ++ x ∷ []) s m → P x
-      → Comes code turns (Running m) (λ y. 0) (λ y t n. IsWith here.objects l place lag (values ++ y ∷ []) t n × P y) (Gives x s)
-  given place lag values x P s m leaves holds = (leaves.0, leads_later code (Running m) (Running leaves.0) leaves.1, (leaves.2, holds))
+      → Comes code turns (Running m) s.sites (λ y. 0) (λ y t n. IsWith here.objects l place lag (values ++ y ∷ []) t n × P y) (Gives x s)
+  given place lag values x P s m leaves holds = (leaves.0, passes_none code 0 s.sites (Running m) (Running leaves.0) leaves.1, (leaves.2, holds))
 
   pub no_values : (k lag : ℕ) (values : List ℤ) (s : SourceState) (m : MachineState) → At k lag values s m → IsWith here.objects l k lag (values ++ []) s m
   no_values k lag values s m at = subst (λ v. IsWith here.objects l k lag v s m) (sym (append-nil values)) at
 
   -- one operand, and what computes of it
-  module _ (part : IrTree) (line : ℕ → List Instr) (f : ℤ → ℤ) (does : DoesExpression part) where
+  module _ (part : IrTree) (line : ℕ → List Word) (f : ℤ → ℤ) (does : DoesExpression part) where
     unary_done : (k lag : ℕ) (values : List ℤ) (P : ℤ → Type 0) → is_straight l part ≡ true → length values + height_of part ≤ l.depth → length values + 1 ≤ l.depth
         → ((k lag : ℕ) (x : ℤ) (s : SourceState) (m : MachineState) → StandHere code k (line (length values)) → Valued k lag values part x s m → Leaves code here.objects l (k + length (line (length values))) lag (values ++ f x ∷ []) s m × P (f x))
         → StandHere code k (code_of part (length values) ++ line (length values))
@@ -161,14 +161,15 @@ module _ (code : List ℕ) (turns : ℕ) (l : Layout) (laid : IsLaidOut l) (here
       let keeps = keeps_registers l depth m u (IsChanged code here.objects l laid depth) (changed_spare code here.objects l laid depth) same loaded.memory loaded.input loaded.output in
       let flag : register u 27 ≡ register m 27 = loaded.others 27 (λ e. work_below (stack_register depth) 27 (stack_work depth) refl (sym e)) differ_flag in
       let fits = fits_32 (shape_of here.objects n).width x held.fits in
-      let is = concluded code here.objects l laid (k + length loading) lag values x s m u (omega arith) (second_stands code k loading finishing stands) done.1 loaded.before
+      let is = concluded code here.objects l laid (k + length loading) lag values x s m u (omega arith) (second_stands code k loading finishing stands) loaded.before
       (agrees_kept here.objects l lag depth s.kept m u keeps flag at.agrees) keeps at.stack loaded.gives fits in
       let whole : k + length loading + length finishing ≡ k + length (loading ++ finishing) = omega (arith, length-append loading finishing) in
       let none : lag ≡ lag + 0 = omega arith in
       let value : number_at (location (shape_of here.objects n).object 0) s.kept ≡ x =
       ap (λ o. number_at (location o 0) s.kept) (object_is n (slice_get here.objects n) refl) ∙ ap (λ list. unwrap_or (slice_get list 0) (pos 0)) held.numbers in
-      let moved = subst (λ e. Leaves code here.objects l e (lag + 0) (values ++ x ∷ []) s m) whole (subst (λ g. Leaves code here.objects l (k + length loading + length finishing) g (values ++ x ∷ []) s m) none is) in
-      subst (Comes code turns (Running m) (λ y. 0) (Valued (k + length (loading ++ finishing)) (lag + 0) values (Read (Variable n)))) (sym (read_is n s (scalars n straight) ∙ ap (λ y. Gives y s) value))
+      let moved = subst (λ e. Leaves code here.objects l e (lag + 0) (values ++ x ∷ []) s m) whole (subst (λ g. Leaves code here.objects l (k + length loading + length finishing) g (values ++ x ∷ []) s m) none
+      (concluded_from code here.objects l laid (k + length loading + length finishing) lag (values ++ x ∷ []) s m u done.1 is)) in
+      subst (Comes code turns (Running m) s.sites (λ y. 0) (Valued (k + length (loading ++ finishing)) (lag + 0) values (Read (Variable n)))) (sym (read_is n s (scalars n straight) ∙ ap (λ y. Gives y s) value))
       (given (k + length (loading ++ finishing)) (lag + 0) values x (λ y. is_sixteen (shape_of here.objects n).width ≡ true → FitsSigned w16 y) s m moved (sixteen_by (shape_of here.objects n).width x held.fits))
 
   -- ---- one operand

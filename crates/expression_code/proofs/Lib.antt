@@ -2,6 +2,7 @@ pub mod Numbers
 pub mod Computing
 pub mod Deciding
 pub mod Sites
+pub mod Wordless
 pub mod Operators
 pub mod Values
 pub mod Placing

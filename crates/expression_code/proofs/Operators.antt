@@ -15,27 +15,24 @@ use Rattle.operator_meaning.proofs.Values.{values_fit}
 use Rattle.operator_lowering.specs.Laws.{IsFormOf}
 use Rattle.operator_lowering.specs.Sites.{site_value, site_clips, site_raises, samples_after, of_32_bits, AreSiteOperands}
 use Rattle.operator_lowering.specs.Template.{makes_calls}
-use Rattle.operator_lowering.specs.Words.{template_words}
-use Rattle.operator_meaning.specs.declared.site.Guard.TheVariants.{Kept}
 use Rattle.source_runs.specs.Marks.{within}
 use Rattle.source_runs.specs.Runs.{Gives, Stops, at_site, changing, ◌>>=◌, ◌>>◌}
 use Rattle.source_runs.specs.State.{Kept as KeptState, SourceState, raised, counted}
 use Rattle.source_runs.proofs.Operators.{fits_32}
 use Rattle.tree_meaning.specs.Parts.{operated_with}
 use Rattle.rv_encode.specs.State.{MachineState, Running, Over, Stopped, register}
-use Rattle.rv_encode.specs.Runs.{Leads}
-use Rattle.template_runs.specs.Machine.{StandHere}
+use Rattle.code_lines.specs.Words.{StandHere, Code}
 use Rattle.code_lines.specs.Pieces.{count_in}
-use Rattle.code_runs.specs.Doing.{Bond, Comes}
-use Rattle.code_runs.proofs.Steps.{leads_later}
+use Rattle.code_runs.specs.Doing.{Passes, Bond, Comes}
+use Rattle.code_runs.proofs.Steps.{passes_then}
 use Rattle.code_stacks.specs.Places.{Layout, IsLaidOut}
 use Rattle.code_stacks.specs.Agreement.{Agrees, IsWith}
 use Rattle.code_stacks.specs.Operands.{fetches, finish_code}
 use Rattle.code_stacks.proofs.Keeping.{Keeps, keeps_same, agrees_kept, held_kept, lowered}
 use Rattle.code_stacks.proofs.Operands.{second_stands}
-use Rattle.expression_code.specs.Code.{site_registers, site_code}
+use Rattle.expression_code.specs.Code.{template_code, site_code}
 use Rattle.expression_code.proofs.Computing.{concluded}
-use Rattle.expression_code.proofs.Sites.{IsAsked, site_done}
+use Rattle.expression_code.proofs.Sites.{IsAsked, IsTold, site_done}
 
 -- ---- what the source does
 
@@ -90,7 +87,7 @@ agrees_operated objects l lag weight depth raises kept m u keeps flag agrees = r
   variables = λ n is. let held = held_kept objects l kept m.memory u.memory n (keeps.variables n is) (agrees.variables n is) in record { numbers = held.numbers; fits = held.fits };
 }
 
-module _ (code : List ℕ) (turns : ℕ) (objects : List Object) (l : Layout) (laid : IsLaidOut l) where
+module _ (code : Code) (turns : ℕ) (objects : List Object) (l : Layout) (laid : IsLaidOut code l) where
   -- the value of a site on the stack, in place of its operands
   abbrev pub WithValue : (end lag : ℕ) → List ℤ → (ℤ → Type 0) → ℤ → Bond
   WithValue end lag values P x s m = IsWith objects l end lag (values ++ x ∷ []) s m × P x
@@ -107,33 +104,33 @@ module _ (code : List ℕ) (turns : ℕ) (objects : List Object) (l : Layout) (l
   }
 
   op_by : (k lag : ℕ) (values args : List ℤ) (op : Op) (site weight : ℕ) (s : SourceState) (m : MachineState) (o : Option ℤ) → value_of op args ≡ o → length args ≡ arity_of op → length args ≤ 3 → AreOperands op args
-      → length values + length args ≤ l.depth → length values < l.depth → site < 2 ^ 32 → StandHere code k (site_code l (length values) (length args) site (kind.Call op))
+      → length values + length args ≤ l.depth → length values < l.depth → IsTold code (kind.Call op) Flag site (length values) (length args) → StandHere code k (site_code l (length values) (length args) site (kind.Call op))
       → IsWith objects l k lag (values ++ args) s m
-      → Comes code turns (Running m) (λ x. 0) (WithValue (k + length (site_code l (length values) (length args) site (kind.Call op))) (lag + weight) values (FitsWidth (row_of op).gives)) (operated_with weight site op args s)
+      → Comes code turns (Running m) s.sites (λ x. 0) (WithValue (k + length (site_code l (length values) (length args) site (kind.Call op))) (lag + weight) values (FitsWidth (row_of op).gives)) (operated_with weight site op args s)
   op_by k lag values args op site weight s m (Some x) is count few are all_room room small stands with_args =
       let depth = length values in
       let fetching = fetches l depth (length args) in
-      let words = template_words (kind.Call op) Flag Kept site (site_registers depth (length args)) in
+      let words = template_code (kind.Call op) Flag site depth (length args) in
       let finishing = finish_code l depth in
       let site_is = site_done code objects l laid k lag values args (kind.Call op) Flag site (raises_of op args) (Some x) s m few all_room small stands with_args (op_asked op args s.kept.left (Some x) count are is) in
       let after : SourceState = record { kept = raised (raises_of op args) (counted weight s.kept); sites = s.sites ++ site ∷ [] } in
       let fits = values_fit op args x are is in
       let agrees = agrees_operated objects l lag weight depth (raises_of op args) s.kept m site_is.0 site_is.3 site_is.5 with_args.agrees in
       let finish_stands = second_stands code (k + length fetching) words finishing (second_stands code k fetching (words ++ finishing) stands) in
-      let done = concluded code objects l laid (k + length fetching + length words) (lag + weight) values x after m site_is.0 room finish_stands site_is.1 site_is.2 agrees site_is.3
+      let done = concluded code objects l laid (k + length fetching + length words) (lag + weight) values x after m site_is.0 room finish_stands site_is.2 agrees site_is.3
       (lowered l values args m m (keeps_same l depth m) with_args.stack) site_is.4 (fits_32 (row_of op).gives x fits) in
       let whole : k + length fetching + length words + length finishing ≡ k + length (fetching ++ (words ++ finishing)) = omega (arith, length-append fetching (words ++ finishing), length-append words finishing) in
-      subst (Comes code turns (Running m) (λ x. 0) (WithValue (k + length (fetching ++ (words ++ finishing))) (lag + weight) values (FitsWidth (row_of op).gives))) (sym (operated_some weight site op args x s is))
-      (done.0, leads_later code (Running m) (Running done.0) done.1, (subst (λ n. IsWith objects l n (lag + weight) (values ++ x ∷ []) after done.0) whole done.2, fits))
+      subst (Comes code turns (Running m) s.sites (λ x. 0) (WithValue (k + length (fetching ++ (words ++ finishing))) (lag + weight) values (FitsWidth (row_of op).gives))) (sym (operated_some weight site op args x s is))
+      (done.0, passes_then code s.sites (s.sites ++ site ∷ []) (Running m) (Running site_is.0) (Running done.0) site_is.1 done.1, (subst (λ n. IsWith objects l n (lag + weight) (values ++ x ∷ []) after done.0) whole done.2, fits))
   op_by k lag values args op site weight s m None is count few are all_room room small stands with_args =
       let site_is = site_done code objects l laid k lag values args (kind.Call op) Flag site (raises_of op args) None s m few all_room small stands with_args (op_asked op args s.kept.left None count are is) in
-      subst (Comes code turns (Running m) (λ x. 0) (WithValue (k + length (site_code l (length values) (length args) site (kind.Call op))) (lag + weight) values (FitsWidth (row_of op).gives))) (sym (operated_none weight site op args s is))
-      (subst (λ output. Leads code (Running m) (Over (Stopped site) output)) with_args.agrees.output site_is)
+      subst (Comes code turns (Running m) s.sites (λ x. 0) (WithValue (k + length (site_code l (length values) (length args) site (kind.Call op))) (lag + weight) values (FitsWidth (row_of op).gives))) (sym (operated_none weight site op args s is))
+      (subst (λ output. Passes code 0 s.sites (s.sites ++ site ∷ []) (Running m) (Over (Stopped site) output)) with_args.agrees.output site_is)
 
   pub op_done : (k lag : ℕ) (values args : List ℤ) (op : Op) (site weight : ℕ) (s : SourceState) (m : MachineState) → length args ≡ arity_of op → length args ≤ 3 → AreOperands op args
-      → length values + length args ≤ l.depth → length values < l.depth → site < 2 ^ 32 → StandHere code k (site_code l (length values) (length args) site (kind.Call op))
+      → length values + length args ≤ l.depth → length values < l.depth → IsTold code (kind.Call op) Flag site (length values) (length args) → StandHere code k (site_code l (length values) (length args) site (kind.Call op))
       → IsWith objects l k lag (values ++ args) s m
-      → Comes code turns (Running m) (λ x. 0) (WithValue (k + length (site_code l (length values) (length args) site (kind.Call op))) (lag + weight) values (FitsWidth (row_of op).gives)) (operated_with weight site op args s)
+      → Comes code turns (Running m) s.sites (λ x. 0) (WithValue (k + length (site_code l (length values) (length args) site (kind.Call op))) (lag + weight) values (FitsWidth (row_of op).gives)) (operated_with weight site op args s)
   op_done k lag values args op site weight s m count few are all_room room small stands with_args =
       op_by k lag values args op site weight s m (value_of op args) refl count few are all_room room small stands with_args
 
@@ -160,38 +157,38 @@ module _ (code : List ℕ) (turns : ℕ) (objects : List Object) (l : Layout) (l
   }
 
   plain_by : (k lag : ℕ) (values args : List ℤ) (kind : SiteKind) (site : ℕ) (z : ℤ) (s : SourceState) (m : MachineState) (o : Option ℤ) → within z ≡ o → IsPlain kind args z → length args ≤ 3
-      → length values + length args ≤ l.depth → length values < l.depth → site < 2 ^ 32
-      → StandHere code k (fetches l (length values) (length args) ++ (template_words kind Plain Kept site (site_registers (length values) (length args)) ++ finish_code l (length values)))
+      → length values + length args ≤ l.depth → length values < l.depth → IsTold code kind Plain site (length values) (length args)
+      → StandHere code k (fetches l (length values) (length args) ++ (template_code kind Plain site (length values) (length args) ++ finish_code l (length values)))
       → IsWith objects l k lag (values ++ args) s m
-      → Comes code turns (Running m) (λ x. 0)
-      (WithValue (k + length (fetches l (length values) (length args) ++ (template_words kind Plain Kept site (site_registers (length values) (length args)) ++ finish_code l (length values)))) lag values (FitsSigned w32))
+      → Comes code turns (Running m) s.sites (λ x. 0)
+      (WithValue (k + length (fetches l (length values) (length args) ++ (template_code kind Plain site (length values) (length args) ++ finish_code l (length values)))) lag values (FitsSigned w32))
       (at_site site (within z) s)
   plain_by k lag values args kind site z s m (Some x) is plain few all_room room small stands with_args =
       let depth = length values in
       let fetching = fetches l depth (length args) in
-      let words = template_words kind Plain Kept site (site_registers depth (length args)) in
+      let words = template_code kind Plain site depth (length args) in
       let finishing = finish_code l depth in
       let site_is = site_done code objects l laid k lag values args kind Plain site false (Some x) s m few all_room small stands with_args (plain_asked kind args s.kept.left z (Some x) plain is) in
       let after : SourceState = record { kept = s.kept; sites = s.sites ++ site ∷ [] } in
       let fits = within_fits z x is in
       let agrees = agrees_kept objects l lag depth s.kept m site_is.0 site_is.3 site_is.5 with_args.agrees in
       let finish_stands = second_stands code (k + length fetching) words finishing (second_stands code k fetching (words ++ finishing) stands) in
-      let done = concluded code objects l laid (k + length fetching + length words) lag values x after m site_is.0 room finish_stands site_is.1 site_is.2 agrees site_is.3
+      let done = concluded code objects l laid (k + length fetching + length words) lag values x after m site_is.0 room finish_stands site_is.2 agrees site_is.3
       (lowered l values args m m (keeps_same l depth m) with_args.stack) site_is.4 fits in
       let whole : k + length fetching + length words + length finishing ≡ k + length (fetching ++ (words ++ finishing)) = omega (arith, length-append fetching (words ++ finishing), length-append words finishing) in
-      subst (Comes code turns (Running m) (λ x. 0) (WithValue (k + length (fetching ++ (words ++ finishing))) lag values (FitsSigned w32))) (sym (site_some site (within z) x s is))
-      (done.0, leads_later code (Running m) (Running done.0) done.1, (subst (λ n. IsWith objects l n lag (values ++ x ∷ []) after done.0) whole done.2, fits))
+      subst (Comes code turns (Running m) s.sites (λ x. 0) (WithValue (k + length (fetching ++ (words ++ finishing))) lag values (FitsSigned w32))) (sym (site_some site (within z) x s is))
+      (done.0, passes_then code s.sites (s.sites ++ site ∷ []) (Running m) (Running site_is.0) (Running done.0) site_is.1 done.1, (subst (λ n. IsWith objects l n lag (values ++ x ∷ []) after done.0) whole done.2, fits))
   plain_by k lag values args kind site z s m None is plain few all_room room small stands with_args =
       let site_is = site_done code objects l laid k lag values args kind Plain site false None s m few all_room small stands with_args (plain_asked kind args s.kept.left z None plain is) in
-      subst (Comes code turns (Running m) (λ x. 0) (WithValue _ lag values (FitsSigned w32))) (sym (site_none site (within z) s is))
-      (subst (λ output. Leads code (Running m) (Over (Stopped site) output)) with_args.agrees.output site_is)
+      subst (Comes code turns (Running m) s.sites (λ x. 0) (WithValue _ lag values (FitsSigned w32))) (sym (site_none site (within z) s is))
+      (subst (λ output. Passes code 0 s.sites (s.sites ++ site ∷ []) (Running m) (Over (Stopped site) output)) with_args.agrees.output site_is)
 
   pub plain_done : (k lag : ℕ) (values args : List ℤ) (kind : SiteKind) (site : ℕ) (z : ℤ) (s : SourceState) (m : MachineState) → IsPlain kind args z → length args ≤ 3
-      → length values + length args ≤ l.depth → length values < l.depth → site < 2 ^ 32
-      → StandHere code k (fetches l (length values) (length args) ++ (template_words kind Plain Kept site (site_registers (length values) (length args)) ++ finish_code l (length values)))
+      → length values + length args ≤ l.depth → length values < l.depth → IsTold code kind Plain site (length values) (length args)
+      → StandHere code k (fetches l (length values) (length args) ++ (template_code kind Plain site (length values) (length args) ++ finish_code l (length values)))
       → IsWith objects l k lag (values ++ args) s m
-      → Comes code turns (Running m) (λ x. 0)
-      (WithValue (k + length (fetches l (length values) (length args) ++ (template_words kind Plain Kept site (site_registers (length values) (length args)) ++ finish_code l (length values)))) lag values (FitsSigned w32))
+      → Comes code turns (Running m) s.sites (λ x. 0)
+      (WithValue (k + length (fetches l (length values) (length args) ++ (template_code kind Plain site (length values) (length args) ++ finish_code l (length values)))) lag values (FitsSigned w32))
       (at_site site (within z) s)
   plain_done k lag values args kind site z s m plain few all_room room small stands with_args =
       plain_by k lag values args kind site z s m (within z) refl plain few all_room room small stands with_args

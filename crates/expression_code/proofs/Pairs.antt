@@ -10,9 +10,9 @@ use Rattle.source_runs.specs.State.{SourceState}
 use Rattle.typed_meaning.specs.Expressions.{Setting, Called}
 use Rattle.ir_arena.specs.Tree.{IrTree, Binary}
 use Rattle.tree_meaning.specs.Trees.{value_meaning}
-use Rattle.rv_encode.specs.declared.instruction.Instr.{Instr}
+use Rattle.code_lines.specs.declared.word.Word.{Word}
+use Rattle.code_lines.specs.Words.{StandHere, Code}
 use Rattle.rv_encode.specs.State.{MachineState, Moment, Running}
-use Rattle.template_runs.specs.Machine.{StandHere}
 use Rattle.code_runs.specs.Doing.{Bond, Comes, Does}
 use Rattle.code_runs.proofs.Parts.{in_turn}
 use Rattle.code_stacks.specs.Places.{Layout, IsLaidOut}
@@ -26,11 +26,11 @@ use Rattle.expression_code.proofs.Placing.{top_fits}
 use Rattle.expression_code.proofs.Values.{marked, marks_two}
 use Rattle.expression_code.proofs.Leaves.{both_true, one_longer, some_height, Valued, DoesExpression, given}
 
-module _ (code : List ℕ) (turns : ℕ) (l : Layout) (laid : IsLaidOut l) (here : Setting) (called : Called) (scalars : AreScalars here.objects l) where
+module _ (code : Code) (turns : ℕ) (l : Layout) (laid : IsLaidOut code l) (here : Setting) (called : Called) (scalars : AreScalars here.objects l) where
   abbrev At : (k lag : ℕ) → List ℤ → Bond
   At k lag values = With here.objects l k lag values
 
-  abbrev code_of : IrTree → ℕ → List Instr
+  abbrev code_of : IrTree → ℕ → List Word
   code_of e depth = expression_code here.objects l e depth
 
   -- ---- two operands
@@ -53,11 +53,11 @@ module _ (code : List ℕ) (turns : ℕ) (l : Layout) (laid : IsLaidOut l) (here
   two_values k lag values x y s m is = subst (λ v. IsWith here.objects l k lag v s m) (append_assoc values (x ∷ []) (y ∷ [])) is
 
   -- where more holds than is asked
-  pub comes_as : {A : Type 0} (from : Moment) (holds asked : A → Bond) (o : Outcome A) → ((a : A) (s : SourceState) (m : MachineState) → holds a s m → asked a s m)
-      → Comes code turns from (λ a. 0) holds o → Comes code turns from (λ a. 0) asked o
-  comes_as from holds asked (Gives a s) weaker comes = (comes.0, comes.1, weaker a s comes.0 comes.2)
-  comes_as from holds asked (Stops site s) weaker comes = comes
-  comes_as from holds asked (Goes s) weaker comes = comes
+  pub comes_as : {A : Type 0} (from : Moment) (sites : List ℕ) (holds asked : A → Bond) (o : Outcome A) → ((a : A) (s : SourceState) (m : MachineState) → holds a s m → asked a s m)
+      → Comes code turns from sites (λ a. 0) holds o → Comes code turns from sites (λ a. 0) asked o
+  comes_as from sites holds asked (Gives a s) weaker comes = (comes.0, comes.1, weaker a s comes.0 comes.2)
+  comes_as from sites holds asked (Stops site s) weaker comes = comes
+  comes_as from sites holds asked (Goes s) weaker comes = comes
 
   second_fits : (k lag : ℕ) (values : List ℤ) (x y : ℤ) (s : SourceState) (m : MachineState) → IsWith here.objects l k lag (values ++ x ∷ y ∷ []) s m → FitsSigned w32 y
   second_fits k lag values x y s m at =
@@ -72,19 +72,19 @@ module _ (code : List ℕ) (turns : ℕ) (l : Layout) (laid : IsLaidOut l) (here
         let deeper : length (values ++ x ∷ []) ≡ length values + 1 = one_longer values x in
         let standing : StandHere code k (code_of right (length (values ++ x ∷ []))) = subst (λ d. StandHere code k (code_of right d)) (sym deeper) stands in
         let same : k + length (code_of right (length (values ++ x ∷ []))) ≡ k + length (code_of right (length values + 1)) = ap (λ d. k + length (code_of right d)) deeper in
-        comes_as (Running m) (Valued code turns l laid here called scalars (k + length (code_of right (length (values ++ x ∷ [])))) (lag + weight_of right) (values ++ x ∷ []) right) _ (value_meaning here called right s)
+        comes_as (Running m) s.sites (Valued code turns l laid here called scalars (k + length (code_of right (length (values ++ x ∷ [])))) (lag + weight_of right) (values ++ x ∷ []) right) _ (value_meaning here called right s)
         (λ y t n valued.
         two_values (k + length (code_of right (length values + 1))) (lag + weight_of right) values x y t n
         (subst (λ p. IsWith here.objects l p (lag + weight_of right) ((values ++ x ∷ []) ++ y ∷ []) t n) same valued.0))
         (does_right k lag (values ++ x ∷ []) straight (omega (arith, deeper)) standing s m at)
 
     -- both operands, and what is done with them
-    pub pair_does : (k lag : ℕ) (values : List ℤ) (next : ℤ → ℤ → Run ℤ) (rest : List Instr) (after : ℤ → Bond) → is_straight l left ≡ true → is_straight l right ≡ true
+    pub pair_does : (k lag : ℕ) (values : List ℤ) (next : ℤ → ℤ → Run ℤ) (rest : List Word) (after : ℤ → Bond) → is_straight l left ≡ true → is_straight l right ≡ true
         → length values + height_of left ≤ l.depth → length values + (1 + height_of right) ≤ l.depth → StandHere code k (code_of left (length values) ++ (code_of right (length values + 1) ++ rest))
         → ((x y : ℤ) (s : SourceState) (m : MachineState) → FitsSigned w32 x → FitsSigned w32 y
         → StandHere code (k + length (code_of left (length values)) + length (code_of right (length values + 1))) rest
         → IsWith here.objects l (k + length (code_of left (length values)) + length (code_of right (length values + 1))) (lag + weight_of left + weight_of right) (values ++ x ∷ y ∷ []) s m
-        → Comes code turns (Running m) (λ v. 0) after (next x y s))
+        → Comes code turns (Running m) s.sites (λ v. 0) after (next x y s))
         → Does code turns (At k lag values) (value_meaning here called left >>= (λ x. value_meaning here called right >>= next x)) after
     pair_does k lag values next rest after straight straight2 room room2 stands finishes =
         let xs = code_of left (length values) in
@@ -100,7 +100,7 @@ module _ (code : List ℕ) (turns : ℕ) (l : Layout) (laid : IsLaidOut l) (here
         (λ y t n at. finishes x y t n fits (second_fits (k + length xs + length ys) (lag + weight_of left + weight_of right) values x y t n at) (second_stands code (k + length xs) ys rest later) at)
         s m valued.0)
 
-    abbrev pair_code : BinaryMark → ℕ → List Instr
+    abbrev pair_code : BinaryMark → ℕ → List Word
     pair_code mark depth = code_of left depth ++ (code_of right (depth + 1) ++ around l depth 2 (binary_line mark depth))
 
     pub binary_does : (mark : BinaryMark) (k lag : ℕ) (values : List ℤ) → (is_straight_mark mark && is_straight l left && is_straight l right) ≡ true → length values + height_of (Binary mark left right) ≤ l.depth

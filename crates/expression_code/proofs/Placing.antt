@@ -15,8 +15,8 @@ use Rattle.source_runs.specs.declared.location.Given.TheVariants.{Number}
 use Rattle.source_runs.specs.Calls.{operand_at, operands_of}
 use Rattle.source_runs.specs.State.{SourceState, converted}
 use Rattle.rv_encode.specs.State.{MachineState, Running}
-use Rattle.rv_encode.proofs.Leads.{leads_nowhere}
-use Rattle.template_runs.specs.Machine.{StandHere}
+use Rattle.code_lines.proofs.Leading.{leads_nowhere}
+use Rattle.code_lines.specs.Words.{StandHere, Code}
 use Rattle.code_stacks.specs.Places.{Layout, IsLaidOut}
 use Rattle.code_stacks.specs.Agreement.{IsWith}
 use Rattle.expression_code.specs.Code.{first_width, other_widths, convert_code, narrow_line}
@@ -69,7 +69,7 @@ operands_placed op numbers few same = taken (row_of op).takes numbers few same
 
 -- ---- one operand
 
-module _ (code : List ℕ) (objects : List Object) (l : Layout) (laid : IsLaidOut l) where
+module _ (code : Code) (objects : List Object) (l : Layout) (laid : IsLaidOut code l) where
   pub top_fits : (k lag : ℕ) (values : List ℤ) (x : ℤ) (s : SourceState) (m : MachineState) → IsWith objects l k lag (values ++ x ∷ []) s m → FitsSigned w32 x
   top_fits k lag values x s m is =
       subst (FitsSigned w32) (get_or-append_seam values x [] (pos 0)) (is.stack (length values) (omega (arith, length-append values (x ∷ [])))).1

@@ -11,7 +11,7 @@ use Rattle.c_tree.specs.declared.expression.BinaryMark.{BinaryMark}
 use Rattle.c_tree.specs.declared.expression.BinaryMark.TheVariants as binary
 use Rattle.operator_meaning.specs.declared.object.Object.{Object}
 use Rattle.source_runs.specs.Marks.{truth}
-use Rattle.rv_encode.specs.declared.instruction.Instr.TheVariants.{Addi}
+use Rattle.code_lines.specs.Own.{Addi}
 use Rattle.code_lines.specs.Lines.{File, file_after, is_line, can_be_set}
 use Rattle.code_lines.specs.Pieces.{is_near, number_line, number_code}
 use Rattle.code_lines.proofs.Pieces.{numbers_are_made}
@@ -22,6 +22,7 @@ use Rattle.expression_code.specs.Code.{narrow_line, not_line, truth_line, invert
 use Rattle.expression_code.specs.Straight.{is_straight_mark}
 use Rattle.expression_code.proofs.Computing.{AreIn, Computes}
 use Rattle.expression_code.proofs.Numbers.{zero_test, above_zero, equal_test, unequal_test, turned_test, not_less, narrowed, inverted, low_fits, truth_fits}
+use Rattle.code_lines.specs.Words.{Code}
 
 itself : (n : ℕ) → (n == n) ≡ true
 itself n = grind (arith, nat_tests)
@@ -87,7 +88,7 @@ marked_fits binary.Gt x y fits fits2 = truth_fits (int_lt y x)
 marked_fits binary.Ge x y fits fits2 = truth_fits (int_le y x)
 marked_fits mark x y fits fits2 = truth_fits false
 
-module _ (code : List ℕ) (objects : List Object) (l : Layout) (laid : IsLaidOut l) (depth : ℕ) (overflow : ℤ) where
+module _ (code : Code) (objects : List Object) (l : Layout) (laid : IsLaidOut code l) (depth : ℕ) (overflow : ℤ) where
   abbrev r : ℕ
   r = stack_register depth
 

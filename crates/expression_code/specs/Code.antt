@@ -12,8 +12,9 @@ use Rattle.operator_meaning.specs.declared.site.SiteKind.{SiteKind}
 use Rattle.operator_meaning.specs.declared.site.SiteKind.TheVariants as kind
 use Rattle.operator_meaning.specs.Table.{row_of, arity_of}
 use Rattle.source_runs.specs.Shapes.{shape_of}
-use Rattle.rv_encode.specs.declared.instruction.Instr.{Instr}
-use Rattle.rv_encode.specs.declared.instruction.Instr.TheVariants.{Addi, Sltiu, Xori, Slli, Srai, Slt, Sltu, Xor, Or, And, Sub}
+use Rattle.code_lines.specs.declared.word.Word.{Word}
+use Rattle.code_lines.specs.Words.{template_of}
+use Rattle.code_lines.specs.Own.{Addi, Sltiu, Xori, Slli, Srai, Slt, Sltu, Xor, Or, And, Sub}
 use Rattle.template_runs.specs.declared.registers.Registers.{Registers}
 use Rattle.operator_lowering.specs.Words.{template_words}
 use Rattle.ir_arena.specs.Tree.{IrTree, IrTarget, IrTrees, Constant, Read, Operate, Convert, Not, Invert, Binary, Choose, ReadFlag, Variable, end, more}
@@ -82,27 +83,31 @@ other_widths (width ∷ widths) = widths
 
 -- ---- what computes a value of the topmost ones, which it replaces
 
-abbrev pub around : Layout → (depth count : ℕ) → List Instr → List Instr
+abbrev pub around : Layout → (depth count : ℕ) → List Word → List Word
 around l depth count words = fetches l depth count ++ (words ++ finish_code l depth)
 
-abbrev pub site_code : Layout → (depth count site : ℕ) → SiteKind → List Instr
-site_code l depth count site kind = around l depth count (template_words kind (form_of kind) Kept site (site_registers depth count))
+-- its words, where no site is without its guard
+abbrev pub template_code : SiteKind → Form → (site depth count : ℕ) → List Word
+template_code kind form site depth count = template_of site (template_words kind form Kept site (site_registers depth count))
+
+abbrev pub site_code : Layout → (depth count site : ℕ) → SiteKind → List Word
+site_code l depth count site kind = around l depth count (template_code kind (form_of kind) site depth count)
 
 -- the low 16 bits, as signed
-abbrev pub narrow_line : ℕ → List Instr
+abbrev pub narrow_line : ℕ → List Word
 narrow_line depth = Slli (stack_register depth) (operand_register depth 0) 16 ∷ Srai (stack_register depth) (stack_register depth) 16 ∷ []
 
-abbrev pub not_line : ℕ → List Instr
+abbrev pub not_line : ℕ → List Word
 not_line depth = Sltiu (stack_register depth) (operand_register depth 0) (pos 1) ∷ []
 
-abbrev pub invert_line : ℕ → List Instr
+abbrev pub invert_line : ℕ → List Word
 invert_line depth = Addi 5 0 (negsuc 0) ∷ Sub (stack_register depth) 5 (operand_register depth 0) ∷ []
 
 -- 1 becomes 0, and 0 becomes 1
-abbrev pub turned : ℕ → Instr → List Instr
+abbrev pub turned : ℕ → Word → List Word
 turned depth instr = instr ∷ Xori (stack_register depth) (stack_register depth) (pos 1) ∷ []
 
-abbrev pub binary_line : BinaryMark → ℕ → List Instr
+abbrev pub binary_line : BinaryMark → ℕ → List Word
 binary_line binary.BitAnd depth = And (stack_register depth) (operand_register depth 0) (operand_register depth 1) ∷ []
 binary_line binary.BitOr depth = Or (stack_register depth) (operand_register depth 0) (operand_register depth 1) ∷ []
 binary_line binary.BitXor depth = Xor (stack_register depth) (operand_register depth 0) (operand_register depth 1) ∷ []
@@ -145,37 +150,37 @@ abbrev mutual
 -- ---- values that are evaluated in part
 
 -- 1 where the value is not 0, and else 0
-abbrev pub truth_line : ℕ → List Instr
+abbrev pub truth_line : ℕ → List Word
 truth_line depth = Sltu (stack_register depth) 0 (operand_register depth 0) ∷ []
 
-abbrev pub constant_code : Layout → ℤ → (depth : ℕ) → List Instr
+abbrev pub constant_code : Layout → ℤ → (depth : ℕ) → List Word
 constant_code l value depth = number_code (stack_register depth) value ++ finish_code l depth
 
 -- a branch over so many words where the value on top, which it takes, is 0; before it a weight is brought up
-abbrev pub over_code : Layout → (depth weight words : ℕ) → List Instr
+abbrev pub over_code : Layout → (depth weight words : ℕ) → List Word
 over_code l depth weight words = fetches l depth 1 ++ (flush_code weight ++ jump_where (reach_of words) false Unequal (operand_register depth 0) 0 (pos words))
 
-abbrev pub pass_code : (words : ℕ) → List Instr
+abbrev pub pass_code : (words : ℕ) → List Word
 pass_code words = past_code (is_near words) (pos words)
 
 -- a value with its weight, and code for the case that it is not 0 and for the case that it is
-abbrev pub chosen_code : Layout → (depth weight : ℕ) → (value this other : List Instr) → List Instr
+abbrev pub chosen_code : Layout → (depth weight : ℕ) → (value this other : List Word) → List Word
 chosen_code l depth weight value this other =
     value ++ (over_code l depth weight (length (this ++ pass_code (length other))) ++ ((this ++ pass_code (length other)) ++ other))
 
 -- code of a value, and its weight
-abbrev pub counted_code : (value : List Instr) → (weight : ℕ) → List Instr
+abbrev pub counted_code : (value : List Word) → (weight : ℕ) → List Word
 counted_code value weight = value ++ flush_code weight
 
-abbrev pub truth_code : Layout → (depth : ℕ) → (value : List Instr) → (weight : ℕ) → List Instr
+abbrev pub truth_code : Layout → (depth : ℕ) → (value : List Word) → (weight : ℕ) → List Word
 truth_code l depth value weight = counted_code value weight ++ around l depth 1 (truth_line depth)
 
 -- the code of an operand, with its weight
 pub record Operand : Type 0 where
-  pub code : (depth : ℕ) → List Instr
+  pub code : (depth : ℕ) → List Word
   pub weight : ℕ
 
-abbrev pub marked_code : Layout → BinaryMark → (depth : ℕ) → (left right : Operand) → List Instr
+abbrev pub marked_code : Layout → BinaryMark → (depth : ℕ) → (left right : Operand) → List Word
 marked_code l binary.Both depth left right = chosen_code l depth left.weight (left.code depth) (truth_code l depth (right.code depth) right.weight) (constant_code l (pos 0) depth)
 marked_code l binary.Either depth left right = chosen_code l depth left.weight (left.code depth) (constant_code l (pos 1) depth) (truth_code l depth (right.code depth) right.weight)
 marked_code l mark depth left right = left.code depth ++ (right.code (depth + 1) ++ around l depth 2 (binary_line mark depth))
@@ -184,13 +189,13 @@ marked_code l mark depth left right = left.code depth ++ (right.code (depth + 1)
 
 module _ (objects : List Object) (l : Layout) where
   -- a value is converted to a width, but where its form shows that it has it
-  abbrev pub convert_code : Width → (shown : Bool) → (depth : ℕ) → List Instr
+  abbrev pub convert_code : Width → (shown : Bool) → (depth : ℕ) → List Word
   convert_code W32 shown depth = []
   convert_code W16 true depth = []
   convert_code W16 false depth = around l depth 1 (narrow_line depth)
 
   abbrev mutual
-    pub expression_code : IrTree → (depth : ℕ) → List Instr
+    pub expression_code : IrTree → (depth : ℕ) → List Word
     expression_code (Constant value) depth = constant_code l value depth
     expression_code (Read target) depth = read_code target depth
     expression_code (Operate site kind operands weight) depth = operands_code (widths_of kind) operands depth ++ site_code l depth (count_of kind) site kind
@@ -204,12 +209,12 @@ module _ (objects : List Object) (l : Layout) where
     expression_code (ReadFlag word) depth = Addi (stack_register depth) 27 (pos 0) ∷ finish_code l depth
     expression_code tree depth = []
 
-    pub read_code : IrTarget → (depth : ℕ) → List Instr
+    pub read_code : IrTarget → (depth : ℕ) → List Word
     read_code (Variable object) depth = load_code (stack_register depth) (l.slot object) ++ finish_code l depth
     read_code target depth = []
 
     -- operands one after the other, each converted to the width of its place
-    pub operands_code : List Width → IrTrees → (depth : ℕ) → List Instr
+    pub operands_code : List Width → IrTrees → (depth : ℕ) → List Word
     operands_code widths end depth = []
     operands_code widths (more first rest) depth =
         (expression_code first depth ++ convert_code (first_width widths) (fits_sixteen objects first) depth) ++ operands_code (other_widths widths) rest (depth + 1)

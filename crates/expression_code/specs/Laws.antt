@@ -6,7 +6,7 @@ use Rattle.source_runs.specs.Shapes.{shape_of}
 use Rattle.typed_meaning.specs.Expressions.{Setting, Called}
 use Rattle.ir_arena.specs.Tree.{IrTree}
 use Rattle.tree_meaning.specs.Trees.{value_meaning}
-use Rattle.template_runs.specs.Machine.{StandHere}
+use Rattle.code_lines.specs.Words.{StandHere, Code}
 use Rattle.code_runs.specs.Doing.{Bond, Does}
 use Rattle.code_stacks.specs.Places.{Layout, IsLaidOut}
 use Rattle.code_stacks.specs.Agreement.{IsWith, With}
@@ -24,7 +24,7 @@ Valued objects l place lag values e x s m = IsWith objects l place lag (values +
 -- From its first word, with any values on the stack, the code does what the expression does. After it the value is on top,
 -- and the count lags behind by the weight of the expression.
 abbrev pub ExpressionsAreDone : Type 0
-ExpressionsAreDone = (code : List ℕ) (turns : ℕ) (l : Layout) (here : Setting) (called : Called) (e : IrTree) (k lag : ℕ) (values : List ℤ)
-    → IsLaidOut l → AreScalars here.objects l → is_straight l e ≡ true → length values + height_of e ≤ l.depth → StandHere code k (expression_code here.objects l e (length values))
+ExpressionsAreDone = (code : Code) (turns : ℕ) (l : Layout) (here : Setting) (called : Called) (e : IrTree) (k lag : ℕ) (values : List ℤ)
+    → IsLaidOut code l → AreScalars here.objects l → is_straight l e ≡ true → length values + height_of e ≤ l.depth → StandHere code k (expression_code here.objects l e (length values))
     → Does code turns (With here.objects l k lag values) (value_meaning here called e)
     (Valued here.objects l (k + length (expression_code here.objects l e (length values))) (lag + weight_of e) values e)

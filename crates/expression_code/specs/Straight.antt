@@ -1,9 +1,10 @@
 -- Expressions that have such code: over scalars, with operators, plain arithmetic and choices.
-use Rattle.std.specs.Prelude.{ℕ, ◌+◌, max, Bool, true, false, ◌&&◌, ◌==◌, nat_lt, ℤ, pos, negsuc, int_le}
+use Rattle.std.specs.Prelude.{ℕ, ◌+◌, max, Bool, true, false, not, ◌&&◌, if◌then◌else◌, ◌==◌, nat_lt, ℤ, pos, negsuc, int_le}
 use Rattle.c_tree.specs.declared.expression.BinaryMark.{BinaryMark}
 use Rattle.c_tree.specs.declared.expression.BinaryMark.TheVariants as binary
 use Rattle.operator_meaning.specs.declared.site.SiteKind.{SiteKind}
 use Rattle.operator_meaning.specs.declared.site.SiteKind.TheVariants as kind
+use Rattle.operator_meaning.specs.declared.operator.Op.TheVariants as op
 use Rattle.ir_arena.specs.Tree.{IrTree, IrTarget, IrTrees, Constant, Read, Operate, Convert, Not, Invert, Binary, Choose, ReadFlag, Variable, end, more}
 use Rattle.code_stacks.specs.Places.{Layout}
 use Rattle.expression_code.specs.Code.{count_of, weight_of}
@@ -18,6 +19,15 @@ is_site kind.Difference = true
 is_site kind.Product = true
 is_site kind.Opposite = true
 is_site other = false
+
+-- a site that has no words, since its result is where its operand is
+abbrev pub is_wordless : SiteKind → Bool
+is_wordless (kind.Call op.LDepositL) = true
+is_wordless other = false
+
+-- the number of a site fits in a register, and it is a site without words exactly where it is held for one
+abbrev pub is_numbered : Layout → (site : ℕ) → SiteKind → Bool
+is_numbered l site kind = nat_lt site 4294967296 && (if l.is_wordless site then is_wordless kind else not (is_wordless kind))
 
 -- a mark of which both operands are evaluated
 abbrev pub is_straight_mark : BinaryMark → Bool
@@ -54,7 +64,7 @@ abbrev mutual
   pub is_straight : Layout → IrTree → Bool
   is_straight l (Constant value) = is_number value
   is_straight l (Read target) = is_variable_of l target
-  is_straight l (Operate site kind operands weight) = is_site kind && (count_in operands == count_of kind) && nat_lt site 4294967296 && are_straight l operands
+  is_straight l (Operate site kind operands weight) = is_site kind && (count_in operands == count_of kind) && is_numbered l site kind && are_straight l operands
   is_straight l (Convert cast width part) = is_straight l part
   is_straight l (Not part) = is_straight l part
   is_straight l (Invert part) = is_straight l part

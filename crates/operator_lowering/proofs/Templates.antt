@@ -141,7 +141,7 @@ module _ (k : SiteKind) (form : Form) (guard : Guard) (site : ℕ) (regs : Regis
       let flag = register s 27 in
       let lead = ready k form guard allowed (is_in_place (places way regs)) site a b c flag s.input small asked in
       let run = begins regs (is_in_place (places way regs)) (makes_calls k) words code place s (site_final k form site a b c flag s.input) own (sound k form guard (is_in_place (places way regs)) site).short before way refl lead.0 lead.1 stands in
-      (run.0, run.1, finished (place + length (template_words k form guard site regs)) s (moment_after code run.0 (Running s)) (site_value k a b c s.input) run.2)
+      (run.0, run.1, run.2, finished (place + length (template_words k form guard site regs)) s (moment_after code run.0 (Running s)) (site_value k a b c s.input) run.3)
     where
       finished : (end : ℕ) (s : MachineState) (at : Moment) (o : Option ℤ)
           → IsFinal regs.result (makes_calls k) end s at (led_to o site (Rattle.operator_lowering.specs.Sites.flag_after form (Rattle.operator_lowering.specs.Sites.site_raises k (register s regs.first) (register s regs.second) (register s regs.third)) (register s 27)) (Rattle.operator_lowering.specs.Sites.samples_after k s.input))

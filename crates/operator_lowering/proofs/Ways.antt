@@ -13,19 +13,22 @@ use Rattle.template_runs.specs.declared.registers.Registers.{Registers}
 use Rattle.template_runs.specs.Copies.{IsCopied}
 use Rattle.template_runs.specs.Courses.{Final, Ends, Stops, Lost, is_scratch}
 use Rattle.template_runs.specs.Machine.{StandHere, IsBefore, IsFinal, course_of}
+use Rattle.template_runs.specs.Visits.{visited, Ascend}
 use Rattle.template_runs.specs.Renaming.{AreInRange, AreApart, IsPlace, all_over}
 use Rattle.template_runs.proofs.Copies.{adds_copy}
 use Rattle.template_runs.proofs.Follows.{courses_are_runs}
 
--- within 4,096 instructions the machine comes from before some words to where a course comes
+-- within 4,096 instructions the machine comes from before some words to where a course comes, onwards alone
 abbrev pub Done : (result : ℕ) → (calls : Bool) → List ℕ → (place : ℕ) → List Instr → MachineState → Final → Type 0
-Done result calls code place words s final = (n : ℕ) × (n ≤ 4096) × IsFinal result calls (place + length words) s (moment_after code n (Running s)) final
+Done result calls code place words s final =
+    (n : ℕ) × (n ≤ 4096) × Ascend place (place + length words) (visited code n (Running s)) × IsFinal result calls (place + length words) s (moment_after code n (Running s)) final
 
 -- ---- the words alone
 
 -- the same within fewer instructions
 abbrev DoneIn : (most result : ℕ) → (calls : Bool) → List ℕ → (place : ℕ) → List Instr → MachineState → Final → Type 0
-DoneIn most result calls code place words s final = (n : ℕ) × (n ≤ most) × IsFinal result calls (place + length words) s (moment_after code n (Running s)) final
+DoneIn most result calls code place words s final =
+    (n : ℕ) × (n ≤ most) × Ascend place (place + length words) (visited code n (Running s)) × IsFinal result calls (place + length words) s (moment_after code n (Running s)) final
 
 straight_in : (regs : Registers) (apart : ℕ → Bool) (calls moved : Bool) (words : List Instr) (code : List ℕ) (place : ℕ) (s : MachineState) (final : Final)
     → AreInRange regs → AreApart regs apart → (moved ≡ true → regs.result ≡ regs.first) → length words ≤ 90
@@ -37,8 +40,9 @@ straight_in regs apart calls moved words code place s final range apart_is moved
     let same : length words ≡ length (all_over regs words) = sym (length-map words (Rattle.template_runs.specs.Renaming.over regs)) in (
       run.0,
       omega arith,
+      subst (λ l. Ascend place (place + l) (visited code run.0 (Running s))) same run.2,
       subst (λ l. IsFinal regs.result calls (place + l) s (moment_after code run.0 (Running s)) final) same
-          (subst (IsFinal regs.result calls (place + length words) s (moment_after code run.0 (Running s))) is run.2),
+          (subst (IsFinal regs.result calls (place + length words) s (moment_after code run.0 (Running s))) is run.3),
     )
 
 pub straight : (regs : Registers) (apart : ℕ → Bool) (calls moved : Bool) (words : List Instr) (code : List ℕ) (place : ℕ) (s : MachineState) (final : Final)
@@ -47,7 +51,7 @@ pub straight : (regs : Registers) (apart : ℕ → Bool) (calls moved : Bool) (w
     → Done regs.result calls code place (all_over regs words) s final
 straight regs apart calls moved words code place s final range apart_is moved_is short stands before is =
     let run = straight_in regs apart calls moved words code place s final range apart_is moved_is short stands before is in
-    let few = run.1 in (run.0, omega arith, run.2)
+    let few = run.1 in (run.0, omega arith, run.2, run.3)
 
 -- ---- after a copy to the result or to x28
 
@@ -100,7 +104,15 @@ copied_first regs rd rs apart calls moved words code place s final range apart_i
     let end : place + 1 + length rest ≡ place + length (own ∷ rest) = omega arith in (
       suc enough.0,
       omega arith,
+      (
+        place,
+        omega arith,
+        omega arith,
+        before.pc,
+        subst (λ p. Ascend (place + 1) p (visited code enough.0 (next_moment code (Running s)))) end
+            (subst (λ m. Ascend (place + 1) (place + 1 + length rest) (visited code enough.0 m)) (sym copy.1) enough.2),
+      ),
       subst (λ p. IsFinal regs.result calls p s (moment_after code enough.0 (next_moment code (Running s))) final) end
           (subst (λ m. IsFinal regs.result calls (place + 1 + length rest) s (moment_after code enough.0 m) final) (sym copy.1)
-          (after_copy regs.result rd rs calls (place + 1) (place + 1 + length rest) s t (moment_after code enough.0 (Running t)) final to (λ e. let high = result_is.1 in absurd (omega arith)) copied enough.2)),
+          (after_copy regs.result rd rs calls (place + 1) (place + 1 + length rest) s t (moment_after code enough.0 (Running t)) final to (λ e. let high = result_is.1 in absurd (omega arith)) copied enough.3)),
     )

@@ -17,6 +17,7 @@ use Rattle.rv_encode.specs.Words.{Fits}
 use Rattle.template_runs.specs.declared.registers.Registers.{Registers}
 use Rattle.template_runs.specs.Machine.{IsBefore, Leaves, StandHere}
 use Rattle.template_runs.specs.Renaming.{IsPlace}
+use Rattle.template_runs.specs.Visits.{visited, Ascend}
 use Rattle.operator_lowering.specs.Sites.{site_value, site_clips, site_raises, samples_after, AreSiteOperands, flag_after}
 
 -- the registers of a site lie in x8 to x23
@@ -48,12 +49,13 @@ IsAfter k form site regs end s at (Some value) =
     × Leaves regs.result (makes_calls k) end s t value (flag_after form (site_raises k (register s regs.first) (register s regs.second) (register s regs.third)) (register s OVERFLOW)) (samples_after k s.input)
 IsAfter k form site regs end s at None = at ≡ Over (Stopped site) s.output
 
--- From the first of the words, within 4,096 instructions, the machine is after the site.
+-- From the first of the words, within 4,096 instructions, the machine is after the site, by words that each stand behind
+-- those before them.
 abbrev pub DoesSite : SiteKind → Form → Guard → (site : ℕ) → Registers → List Instr → Type 0
 DoesSite k form guard site regs words = (code : List ℕ) (place : ℕ) (s : MachineState)
     → StandHere code place words → IsBefore place s
     → AreAsked k form guard (register s regs.first) (register s regs.second) (register s regs.third) s.input
-    → (n : ℕ) × (n ≤ 4096)
+    → (n : ℕ) × (n ≤ 4096) × Ascend place (place + length words) (visited code n (Running s))
     × IsAfter k form site regs (place + length words) s (moment_after code n (Running s)) (site_value k (register s regs.first) (register s regs.second) (register s regs.third) s.input)
 
 -- the kinds whose plain words may compare: the shifts and the norms

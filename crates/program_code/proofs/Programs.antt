@@ -1,54 +1,54 @@
 -- A program from its first instruction to its last.
-use Rattle.std.proofs.Common.{◌≡◌, ◌≢◌, ℕ, suc, ◌+◌, ◌*◌, ◌%◌, ◌^◌, ◌<◌, ◌≤◌, ℤ, pos, Bool, true, false, ◌==◌, List, [], ◌∷◌, ◌++◌, length, length-append, refl, sym, ap, ◌∙◌, subst, arith}
-use Rattle.std.specs.Prelude.{◌≤ℤ◌, negsuc, FitsSigned, Option, Some, None, slice_get, is_some}
+use Rattle.std.proofs.Common.{◌≡◌, ◌≢◌, ℕ, suc, ◌+◌, ◌*◌, ◌%◌, ◌^◌, ◌≤◌, ℤ, pos, Bool, List, [], ◌∷◌, ◌++◌, length, length-append, refl, sym, ap, ◌∙◌, subst, arith}
+use Rattle.std.specs.Prelude.{◌≤ℤ◌, negsuc, FitsSigned, Option, Some, slice_get, is_some}
 use Rattle.std.specs.Int.{w16, w32, cast_unsigned, int_wrapping_add}
 use Rattle.std.proofs.lemmas.Bool.{eqb-false}
 use Rattle.std.proofs.lemmas.Int.{ints}
 use Rattle.std.proofs.lemmas.List.Elements.{All-weaker}
 use Rattle.source_runs.specs.declared.halt.Flow.{Flow}
 use Rattle.source_runs.specs.declared.halt.Flow.TheVariants.{Normal, Break, Continue, Return}
-use Rattle.source_runs.specs.Runs.{Outcome, Gives, Stops, Goes, Run, continued, gives, changing, ◌>>=◌, ◌>>◌}
+use Rattle.source_runs.specs.Runs.{state_after, Outcome, Gives, Stops, Goes, Run, continued, gives, changing, ◌>>=◌, ◌>>◌}
 use Rattle.source_runs.specs.State.{SourceState}
 use Rattle.source_runs.specs.Steps.{given_to_all, opening_state}
 use Rattle.typed_meaning.specs.Expressions.{Setting, Called}
 use Rattle.typed_meaning.specs.Observed.{observation_of, returned}
 use Rattle.ir_arena.specs.Tree.{IrWhole, TreeFunction}
-use Rattle.tree_meaning.specs.Observed.{called_with, function_with, tree_observed, tree_opening, tree_outcome, tree_setting}
+use Rattle.tree_meaning.specs.Observed.{called_with, function_with, tree_observed, tree_trace, tree_opening, tree_setting}
 use Rattle.tree_meaning.specs.Parts.{plain_acts}
 use Rattle.tree_meaning.specs.Trees.{statement_meaning}
-use Rattle.rv_encode.specs.declared.instruction.Instr.{Instr}
-use Rattle.rv_encode.specs.declared.instruction.Instr.TheVariants.{Ecall}
-use Rattle.rv_encode.specs.State.{MachineState, Moment, Ended, Running, Over, register, count_of}
+use Rattle.code_lines.specs.declared.word.Word.{Word}
+use Rattle.code_lines.specs.Words.{StandHere, Code, instr_of}
+use Rattle.code_lines.specs.Own.{Ecall}
+use Rattle.rv_encode.specs.State.{MachineState, Moment, Ended, Stopped, Running, Over, register, count_of}
 use Rattle.rv_encode.specs.Effects.{calls, effect_of}
-use Rattle.rv_encode.specs.Runs.{Leads}
-use Rattle.rv_encode.proofs.Leads.{leads_in, leads_then}
+use Rattle.code_lines.specs.Leading.{Leads}
+use Rattle.code_lines.proofs.Leading.{leads_then}
+use Rattle.code_runs.proofs.Steps.{passes_all, passes_none, passes_then}
 use Rattle.image_format.specs.declared.image.Image.{Image}
 use Rattle.image_format.specs.Runs.{loaded}
 use Rattle.image_format.specs.RunsAlike.{AreSamples}
-use Rattle.template_runs.specs.Machine.{StandHere, IsBefore}
 use Rattle.code_lines.proofs.Flushes.{no_weight}
-use Rattle.code_lines.proofs.Lines.{lines_run, next_is}
+use Rattle.code_lines.proofs.Lines.{lines_run, leads_one, next_is}
 use Rattle.code_lines.proofs.Pieces.{numbers_are_made}
 use Rattle.code_memory.specs.Memory.{base_register, base}
-use Rattle.code_runs.specs.Doing.{Comes, Does, LeadsLater, Shows}
-use Rattle.code_runs.specs.Laws.{ShowsAll}
+use Rattle.code_runs.specs.Doing.{Comes, Does, Shows}
+use Rattle.code_runs.specs.Laws.{code_of}
 use Rattle.code_runs.proofs.Alike.{are_alike}
 use Rattle.code_runs.proofs.Parts.{later}
-use Rattle.code_runs.proofs.Steps.{leads_at_all, leads_both, leads_later}
 use Rattle.code_stacks.specs.Places.{Layout, IsLaidOut}
 use Rattle.code_stacks.specs.Agreement.{IsHeld, IsWith, With}
 use Rattle.code_stacks.proofs.Operands.{first_stands, second_stands}
 use Rattle.statement_code.specs.Code.{nowhere, part_of}
-use Rattle.statement_code.specs.Laws.{AreReached, Led, Targets, result_of, weight_of_statement}
+use Rattle.statement_code.specs.Laws.{Led, Targets, result_of, weight_of_statement}
 use Rattle.statement_code.proofs.Parts.{whole_done}
 use Rattle.statement_code.proofs.Statements.{statement_done}
 use Rattle.program_code.specs.Code.{start_code, end_line, end_code, body_code, program_code}
 use Rattle.program_code.specs.Laws.{IsFirst, IsProgram, ProgramsRunAlike}
 
-module _ (tree : IrWhole) (l : Layout) (main : TreeFunction) (near : Bool) (image : Image) (laid : IsLaidOut l) (is : IsProgram tree l main) (first : IsFirst tree.objects l image.memory)
-    (stands : StandHere image.code 0 (program_code tree.objects l near main.body)) (input : List ℤ) (turns : ℕ) where
-  abbrev code : List ℕ
-  code = image.code
+module _ (tree : IrWhole) (l : Layout) (main : TreeFunction) (near : Bool) (image : Image) (begins : ℕ → Option ℕ) (laid : IsLaidOut (code_of image begins l.is_wordless) l) (is : IsProgram tree l main) (first : IsFirst tree.objects l image.memory)
+    (stands : StandHere (code_of image begins l.is_wordless) 0 (program_code tree.objects l near main.body)) (input : List ℤ) (turns : ℕ) where
+  abbrev code : Code
+  code = code_of image begins l.is_wordless
 
   abbrev here : Setting
   here = tree_setting tree turns
@@ -56,7 +56,7 @@ module _ (tree : IrWhole) (l : Layout) (main : TreeFunction) (near : Bool) (imag
   abbrev has_result : Bool
   has_result = is_some main.gives
 
-  abbrev body : List Instr
+  abbrev body : List Word
   body = body_code tree.objects l near main.body
 
   abbrev begin : ℕ
@@ -123,10 +123,10 @@ module _ (tree : IrWhole) (l : Layout) (main : TreeFunction) (near : Bool) (imag
       let count : count_of t ≡ s.kept.count =
       ap (λ x. cast_unsigned w32 (register t 25) * 2 ^ 32 + cast_unsigned w32 x) (left.file 24) ∙ ap (λ x. cast_unsigned w32 x * 2 ^ 32 + cast_unsigned w32 (register m 24)) (left.file 25)
       ∙ no_weight (register m 25) (register m 24) at.agrees.halves.1 at.agrees.halves.0 ∙ sym at.agrees.count in
-      let over : effect_of Ecall t ≡ Over (Ended s.kept.overflow s.kept.count) s.kept.output =
+      let over : effect_of (instr_of Ecall) t ≡ Over (Ended s.kept.overflow s.kept.count) s.kept.output =
       ap (calls t) asked ∙ ap (λ x. Over (Ended x (count_of t)) t.output) flag ∙ ap (λ n. Over (Ended s.kept.overflow n) t.output) count ∙ ap (λ o. Over (Ended s.kept.overflow s.kept.count) o) (left.output ∙ at.agrees.output) in
       leads_then code (Running m) (Running t) (Over (Ended s.kept.overflow s.kept.count) s.kept.output) run.1
-      (leads_in code 1 (Running t) (Over (Ended s.kept.overflow s.kept.count) s.kept.output) (next_is code (place + 1) Ecall t call_stands left.before ∙ over))
+      (leads_one code (place + 1) Ecall t call_stands left.before (Over (Ended s.kept.overflow s.kept.count) s.kept.output) refl (next_is code (place + 1) Ecall t call_stands left.before ∙ over))
 
   abbrev targets : Targets
   targets = record { again = place; left = place; returned = place }
@@ -137,11 +137,15 @@ module _ (tree : IrWhole) (l : Layout) (main : TreeFunction) (near : Bool) (imag
   by_flow Continue s m at = ends [] s m at
   by_flow (Return value) s m at = ends (result_of has_result value) s m at
 
-  shows : (from : Moment) (o : Outcome Flow) → Comes code turns from (λ flow. 0) (Led tree.objects l has_result targets place 0) o → Shows code turns from (observation_of (continued o (λ flow. gives (returned main.gives flow))))
+  abbrev given_on : Outcome Flow → Outcome ℤ
+  given_on o = continued o (λ flow. gives (returned main.gives flow))
+
+  shows : (from : Moment) (o : Outcome Flow) → Comes code turns from [] (λ flow. 0) (Led tree.objects l has_result targets place 0) o → Shows code turns from (state_after (given_on o)).sites (observation_of (given_on o))
   shows from (Gives flow s) comes =
-      leads_then code from (Running comes.0) (Over (Ended s.kept.overflow s.kept.count) s.kept.output) (leads_at_all code 0 from (Running comes.0) comes.1) (by_flow flow s comes.0 comes.2)
-  shows from (Stops site s) comes = comes
-  shows from (Goes s) comes = comes
+      let over = Over (Ended s.kept.overflow s.kept.count) s.kept.output in
+      passes_all code 0 s.sites from over (passes_then code [] s.sites from (Running comes.0) over comes.1 (by_flow flow s comes.0 comes.2))
+  shows from (Stops site s) comes = passes_all code 0 s.sites from (Over (Stopped site) s.kept.output) comes
+  shows from (Goes s) comes = (comes.0, passes_all code turns s.sites from (Running comes.0) comes.1, comes.2)
 
   -- ---- the whole
 
@@ -170,18 +174,18 @@ module _ (tree : IrWhole) (l : Layout) (main : TreeFunction) (near : Bool) (imag
   some_functions [] n function found = absurd (let e = found in cc)
   some_functions (f ∷ rest) n function found = (length rest, omega arith)
 
-  pub program_shows : AreSamples input → Shows code turns (Running (loaded image input)) (tree_observed tree input turns)
+  pub program_shows : AreSamples input → Shows code turns (Running (loaded image input)) (tree_trace tree input turns) (tree_observed tree input turns)
   program_shows samples =
       let some = some_functions tree.functions tree.main main is.is in
       let s = tree_opening tree input in
       let opened = opening_is input samples in
       let t = opened.0 in
       let done = body_does some.0 s t opened.2 in
-      subst (λ o. Shows code turns (Running (loaded image input)) (observation_of o)) (sym (run_is some.0 s some.1))
+      subst (λ o. Shows code turns (Running (loaded image input)) (state_after o).sites (observation_of o)) (sym (run_is some.0 s some.1))
       (shows (Running (loaded image input)) (statement_meaning here (called some.0) main.body s)
-      (later code 0 turns turns (Running (loaded image input)) t (λ flow. 0) (λ flow. 0) (Led tree.objects l has_result targets place 0) (statement_meaning here (called some.0) main.body s) (omega arith) (λ flow. omega arith)
-      (leads_later code (Running (loaded image input)) (Running t) opened.1) done))
+      (later code 0 turns turns [] [] (Running (loaded image input)) t (λ flow. 0) (λ flow. 0) (Led tree.objects l has_result targets place 0) (statement_meaning here (called some.0) main.body s) (omega arith) (λ flow. omega arith)
+      (passes_none code 0 [] (Running (loaded image input)) (Running t) opened.1) done))
 
 pub programs_run_alike : ProgramsRunAlike
-programs_run_alike tree l main near image laid is first stands =
-    are_alike (tree_observed tree) image (λ input turns samples. program_shows tree l main near image laid is first stands input turns samples)
+programs_run_alike tree l main near image begins laid is first stands =
+    are_alike (tree_observed tree) (tree_trace tree) image begins l.is_wordless (λ input turns samples. program_shows tree l main near image begins laid is first stands input turns samples)

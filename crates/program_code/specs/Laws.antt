@@ -1,12 +1,13 @@
 -- When an image of a program runs as its tree does.
-use Rattle.std.specs.Prelude.{◌≡◌, ℕ, ◌^◌, ◌<◌, Bool, true, List, [], length, slice_get, Some, is_some}
+use Rattle.std.specs.Prelude.{◌≡◌, ℕ, ◌^◌, ◌<◌, Bool, true, List, [], length, slice_get, Option, Some, is_some}
 use Rattle.operator_meaning.specs.declared.object.Object.{Object}
 use Rattle.source_runs.specs.Steps.{opening_state}
-use Rattle.ir_arena.specs.Tree.{IrTree, IrWhole, TreeFunction}
-use Rattle.tree_meaning.specs.Observed.{tree_observed}
+use Rattle.ir_arena.specs.Tree.{IrWhole, TreeFunction}
+use Rattle.tree_meaning.specs.Observed.{tree_observed, tree_trace}
 use Rattle.image_format.specs.declared.image.Image.{Image}
 use Rattle.image_format.specs.RunsAlike.{RunsAlike}
-use Rattle.template_runs.specs.Machine.{StandHere}
+use Rattle.code_lines.specs.Words.{StandHere}
+use Rattle.code_runs.specs.Laws.{code_of, EntersAlike}
 use Rattle.code_stacks.specs.Places.{Layout, IsLaidOut}
 use Rattle.code_stacks.specs.Agreement.{IsHeld}
 use Rattle.expression_code.specs.Laws.{AreScalars}
@@ -26,6 +27,9 @@ pub record IsProgram (tree : IrWhole) (l : Layout) (main : TreeFunction) : Type 
   pub statement : IsStatement tree.objects l (is_some main.gives) main.body
   pub light : weight_of_statement main.body < 2 ^ 31
 
+-- The image does what the tree does, and enters the sites that it evaluates.
 abbrev pub ProgramsRunAlike : Type 0
-ProgramsRunAlike = (tree : IrWhole) (l : Layout) (main : TreeFunction) (near : Bool) (image : Image) → IsLaidOut l → IsProgram tree l main → IsFirst tree.objects l image.memory
-    → StandHere image.code 0 (program_code tree.objects l near main.body) → RunsAlike (tree_observed tree) image
+ProgramsRunAlike = (tree : IrWhole) (l : Layout) (main : TreeFunction) (near : Bool) (image : Image) (begins : ℕ → Option ℕ)
+    → IsLaidOut (code_of image begins l.is_wordless) l → IsProgram tree l main → IsFirst tree.objects l image.memory
+    → StandHere (code_of image begins l.is_wordless) 0 (program_code tree.objects l near main.body)
+    → RunsAlike (tree_observed tree) image × EntersAlike (tree_observed tree) (tree_trace tree) image begins l.is_wordless

@@ -20,18 +20,18 @@ use Rattle.typed_meaning.specs.Statements.{assignment_meaning, step_mark}
 use Rattle.ir_arena.specs.Tree.{IrTree, Constant, Write, Step, WriteFlag, Out, AddCount, Variable}
 use Rattle.tree_meaning.specs.Parts.{operate_meaning}
 use Rattle.tree_meaning.specs.Trees.{node_meaning, value_meaning, target_meaning}
-use Rattle.rv_encode.specs.declared.instruction.Instr.{Instr}
-use Rattle.rv_encode.specs.declared.instruction.Instr.TheVariants.{Addi, Ecall}
+use Rattle.code_lines.specs.declared.word.Word.{Word}
+use Rattle.code_lines.specs.Words.{StandHere, Code, instr_of}
+use Rattle.code_lines.specs.Own.{Addi, Ecall}
 use Rattle.rv_encode.specs.State.{MachineState, Running, register, next_pc}
 use Rattle.rv_encode.specs.Effects.{calls, effect_of}
-use Rattle.rv_encode.proofs.Leads.{leads_then, leads_in}
-use Rattle.template_runs.specs.Machine.{StandHere, IsBefore}
-use Rattle.code_lines.proofs.Lines.{lines_run, next_is, next_place}
+use Rattle.code_lines.proofs.Leading.{leads_then}
+use Rattle.template_runs.specs.Machine.{IsBefore}
+use Rattle.code_lines.proofs.Lines.{lines_run, next_is, next_place, leads_one}
 use Rattle.code_memory.specs.Memory.{store_code, IsStored}
 use Rattle.code_memory.proofs.Accesses.{stores_are_done}
 use Rattle.code_runs.specs.Doing.{Bond, Comes, Does}
 use Rattle.code_runs.proofs.Parts.{in_turn}
-use Rattle.code_runs.proofs.Steps.{leads_later, leads_still}
 use Rattle.code_stacks.specs.Places.{Layout, IsLaidOut}
 use Rattle.code_stacks.specs.Agreement.{Agrees, IsWith, With}
 use Rattle.code_stacks.proofs.Keeping.{IsSpare, keeps_registers, agrees_kept, variable_at}
@@ -44,6 +44,7 @@ use Rattle.expression_code.proofs.Leaves.{both_true, some_height}
 use Rattle.expression_code.proofs.Placing.{top_fits, convert_done}
 use Rattle.simple_code.specs.Code.{value_register, out_line, computed, written_by, stepped_by, assigned_code, simple_code, is_simple, weight_of_simple, height_of_simple}
 use Rattle.simple_code.proofs.States.{agrees_counted, agrees_flagged, agrees_put, agrees_written}
+use Rattle.code_runs.proofs.Steps.{passes_none, passes_still}
 
 -- what follows what follows
 in_row_of : {A B C : Type 0} (o : Outcome A) (next : A → Run B) (more : B → Run C) → continued (continued o next) more ≡ continued o (λ a s. continued (next a s) more)
@@ -71,11 +72,11 @@ taken_spare n flag = record { based = unequal 27 3 refl; low = unequal 27 24 ref
 untaken : (n other : ℕ) → IsTaken other → (IsTaken n → ⊥) → (n == other) ≡ false
 untaken n other is never = elim (cases_Bool (n == other)) [ inl same ↦ absurd (never (subst IsTaken (sym (eqb-true n other same)) is)) | inr differ ↦ differ ]
 
-module _ (code : List ℕ) (turns : ℕ) (l : Layout) (laid : IsLaidOut l) (here : Setting) (called : Called) (scalars : AreScalars here.objects l) where
+module _ (code : Code) (turns : ℕ) (l : Layout) (laid : IsLaidOut code l) (here : Setting) (called : Called) (scalars : AreScalars here.objects l) where
   abbrev At : (k lag : ℕ) → Bond
   At k lag = With here.objects l k lag []
 
-  abbrev value_code : IrTree → List Instr
+  abbrev value_code : IrTree → List Word
   value_code value = expression_code here.objects l value 0
 
   -- nothing is on the stack
@@ -93,16 +94,16 @@ module _ (code : List ℕ) (turns : ℕ) (l : Layout) (laid : IsLaidOut l) (here
   count_does weight k lag s m at =
       let none : k ≡ k + 0 = omega arith in (
         m,
-        leads_still code (Running m),
+        passes_still code s.sites (Running m),
         subst (λ n. IsWith here.objects l n (lag + weight) [] (record s { kept = counted weight s.kept }) m) none
             (bare k (lag + weight) (record s { kept = counted weight s.kept }) m at.before (agrees_counted here.objects l lag weight s.kept m at.agrees)),
       )
 
   -- a value, and what is done with it
   module _ (value : IrTree) (straight : is_straight l value ≡ true) (room : height_of value ≤ l.depth) where
-    valued_does : {A : Type 0} (k lag : ℕ) (rest : List Instr) (next : ℤ → Run A) (after : A → Bond) → StandHere code k (value_code value ++ rest)
+    valued_does : {A : Type 0} (k lag : ℕ) (rest : List Word) (next : ℤ → Run A) (after : A → Bond) → StandHere code k (value_code value ++ rest)
         → ((x : ℤ) (s : SourceState) (m : MachineState) → StandHere code (k + length (value_code value)) rest
-        → Valued here.objects l (k + length (value_code value)) (lag + weight_of value) [] value x s m → Comes code turns (Running m) (λ a. 0) after (next x s))
+        → Valued here.objects l (k + length (value_code value)) (lag + weight_of value) [] value x s m → Comes code turns (Running m) s.sites (λ a. 0) after (next x s))
         → Does code turns (At k lag) (value_meaning here called value >>= next) after
     valued_does k lag rest next after stands finishes =
         let xs = value_code value in
@@ -130,7 +131,7 @@ module _ (code : List ℕ) (turns : ℕ) (l : Layout) (laid : IsLaidOut l) (here
         let is : register u 27 ≡ x = left.file 27 ∙ ap (λ y. int_wrapping_add w32 y (pos 0)) (top_is (k + length xs) (lag + weight_of value) x s m valued.0) ∙ none_added x fits in
         let after : SourceState = record s { kept = with_overflow x s.kept } in (
           u,
-          leads_later code (Running m) (Running u) run.1,
+          passes_none code 0 s.sites (Running m) (Running u) run.1,
           subst (λ n. IsWith here.objects l n (lag + weight_of value) [] after u) whole
               (bare (k + length xs + 1) (lag + weight_of value) after u left.before (agrees_flagged here.objects l (lag + weight_of value) x s.kept m u keeps is fits valued.0.agrees)),
         ))
@@ -159,17 +160,17 @@ module _ (code : List ℕ) (turns : ℕ) (l : Layout) (laid : IsLaidOut l) (here
         let asked : register u 17 ≡ pos 3 = left.file 17 ∙ ap (λ y. int_wrapping_add w32 y (pos 3)) valued.0.before.zero_is in
         let call_stands = second_stands code start out_line (Ecall ∷ []) standing in
         let v : MachineState = record u { pc = next_pc u.pc; output = u.output ++ low16 (register u 10) ∷ [] } in
-        let effect : effect_of Ecall u ≡ Running v = ap (calls u) asked in
-        let written = leads_in code 1 (Running u) (Running v) (next_is code (start + 2) Ecall u call_stands left.before ∙ effect) in
+        let effect : effect_of (instr_of Ecall) u ≡ Running v = ap (calls u) asked in
+        let written = leads_one code (start + 2) Ecall u call_stands left.before (Running v) refl (next_is code (start + 2) Ecall u call_stands left.before ∙ effect) in
         let after : SourceState = record s { kept = put x s.kept } in (
           v,
-          leads_later code (Running m) (Running v) (leads_then code (Running m) (Running u) (Running v) run.1 written),
+          passes_none code 0 s.sites (Running m) (Running v) (leads_then code (Running m) (Running u) (Running v) run.1 written),
           subst (λ n. IsWith here.objects l n (lag + weight_of value) [] after v) whole
               (bare (start + 2 + 1) (lag + weight_of value) after v
               (record { pc = next_place code (start + 2) Ecall u call_stands left.before; count = left.before.count; zero_is = left.before.zero_is })
               (agrees_put here.objects l (lag + weight_of value) x s.kept u v agrees (λ n. refl) refl refl (ap (λ y. u.output ++ low16 y ∷ []) given))),
         )))
-        (λ z s m at. (m, leads_still code (Running m), at))
+        (λ z s m at. (m, passes_still code s.sites (Running m), at))
 
     -- ---- variables
 
@@ -199,7 +200,7 @@ module _ (code : List ℕ) (turns : ℕ) (l : Layout) (laid : IsLaidOut l) (here
         (bare (k + length cs + length storing) lag after w stored.2.before
         (agrees_written here.objects l laid lag (k + length cs + length storing) n wide x t.kept u w is refl there.agrees kept_there converting.1)) in (
           w,
-          leads_later code (Running v) (Running w) (leads_then code (Running v) (Running u) (Running w) converting.0.1 stored.1),
+          passes_none code 0 t.sites (Running v) (Running w) (leads_then code (Running v) (Running u) (Running w) converting.0.1 stored.1),
           subst (λ kept. IsWith here.objects l (k + length (cs ++ storing)) lag [] (record t { kept = kept }) w) (sym (same t.kept v valued.0.agrees)) there_after,
         )
 
@@ -216,7 +217,7 @@ module _ (code : List ℕ) (turns : ℕ) (l : Layout) (laid : IsLaidOut l) (here
         let late = lag + weight_of value in
         valued_does k lag rest (λ x. changing (change x)) (λ done. At (k + length (xs ++ rest)) late) stands
         (λ x s m standing valued.
-        subst (λ p. Comes code turns (Running m) (λ done. 0) (λ done. At p late) (changing (change x) s)) whole (stored_does n (k + length xs) late x (change x) is (same x) standing s m valued))
+        subst (λ p. Comes code turns (Running m) s.sites (λ done. 0) (λ done. At p late) (changing (change x) s)) whole (stored_does n (k + length xs) late x (change x) is (same x) standing s m valued))
 
   -- ---- assignments and steps
 
@@ -250,7 +251,7 @@ module _ (code : List ℕ) (turns : ℕ) (l : Layout) (laid : IsLaidOut l) (here
       let own : (shape_of here.objects n).object ≡ n = object_is n (slice_get here.objects n) refl in
       let same : (x : ℤ) (kept : Kept) → written (shape_of here.objects (shape_of here.objects n).object).width (location (shape_of here.objects n).object 0) x kept
       ≡ written (shape_of here.objects n).width (location n 0) x kept = λ x kept. ap (λ o. written (shape_of here.objects o).width (location o 0) x kept) own in
-      subst (Comes code turns (Running m) (λ done. 0) (λ done. At place (lag + weight_of e))) (sym (assignment_is n mark site value s (scalars n is)))
+      subst (Comes code turns (Running m) s.sites (λ done. 0) (λ done. At place (lag + weight_of e))) (sym (assignment_is n mark site value s (scalars n is)))
       (assigned_does e straight room n k lag (λ x. written (shape_of here.objects (shape_of here.objects n).object).width (location (shape_of here.objects n).object 0) x) is
       (λ x kept m agrees. same x kept) stands s m at)
 

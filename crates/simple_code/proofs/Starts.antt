@@ -14,13 +14,12 @@ use Rattle.typed_meaning.specs.Expressions.{Setting, Called}
 use Rattle.typed_meaning.specs.Statements.{start_meaning, option_of}
 use Rattle.ir_arena.specs.Tree.{IrTree, Constant, Read, Operate, Convert, Not, Invert, Binary, Choose, ReadFlag, Variable}
 use Rattle.tree_meaning.specs.Trees.{argument_meaning, value_meaning}
-use Rattle.rv_encode.specs.declared.instruction.Instr.{Instr}
+use Rattle.code_lines.specs.declared.word.Word.{Word}
+use Rattle.code_lines.specs.Words.{StandHere, Code}
 use Rattle.rv_encode.specs.State.{MachineState, Running}
-use Rattle.template_runs.specs.Machine.{StandHere}
 use Rattle.code_memory.specs.Memory.{store_code}
 use Rattle.code_runs.specs.Doing.{Bond, Does, Comes}
 use Rattle.code_runs.proofs.Parts.{in_turn, later}
-use Rattle.code_runs.proofs.Steps.{leads_still}
 use Rattle.code_stacks.specs.Places.{Layout, IsLaidOut}
 use Rattle.code_stacks.specs.Agreement.{Agrees, With}
 use Rattle.code_stacks.proofs.Operands.{first_stands, second_stands}
@@ -31,8 +30,9 @@ use Rattle.expression_code.proofs.Expressions.{expression_does}
 use Rattle.simple_code.specs.Code.{value_register, assigned_code}
 use Rattle.simple_code.specs.Starts.{opening_number, opened_code, opening_code, start_code, IsNumbered, IsOpened, IsOpening, IsStart, weight_of_start}
 use Rattle.simple_code.proofs.Simples.{object_is, stored_does}
+use Rattle.code_runs.proofs.Steps.{passes_still}
 
-module _ (code : List ℕ) (turns : ℕ) (l : Layout) (laid : IsLaidOut l) (here : Setting) (called : Called) (scalars : AreScalars here.objects l) where
+module _ (code : Code) (turns : ℕ) (l : Layout) (laid : IsLaidOut code l) (here : Setting) (called : Called) (scalars : AreScalars here.objects l) where
   abbrev At : (k lag : ℕ) → Bond
   At k lag = With here.objects l k lag []
 
@@ -66,7 +66,7 @@ module _ (code : List ℕ) (turns : ℕ) (l : Layout) (laid : IsLaidOut l) (here
     given k lag (Number x) = Valued here.objects l k lag [] value x
     given k lag (View to) = λ s m. ⊥
 
-    abbrev storing : List Instr
+    abbrev storing : List Word
     storing = convert_code here.objects l (shape_of here.objects n).width (fits_sixteen here.objects value) 0 ++ store_code value_register (l.slot n)
 
     given_does : (k lag : ℕ) → StandHere code k storing → (g : Given) → Does code turns (given k lag g) (changing (given_to (shape_of here.objects n) g)) (λ done. At (k + length storing) lag)
@@ -92,7 +92,7 @@ module _ (code : List ℕ) (turns : ℕ) (l : Layout) (laid : IsLaidOut l) (here
         (subst (λ run. Does code turns (At k lag) run between) (sym (argument_is value straight))
         (in_turn code turns (At k lag) (value_meaning here called value) (Valued here.objects l (k + length xs) late [] value) (λ x. gives (Number x)) between
         (expression_does code turns l laid here called scalars value k lag [] straight (omega arith) (first_stands code k xs storing stands))
-        (λ x s m has. (m, leads_still code (Running m), has))))
+        (λ x s m has. (m, passes_still code s.sites (Running m), has))))
         (λ g. subst (λ p. Does code turns (between g) (changing (given_to (shape_of here.objects n) g)) (λ done. At p late)) whole
         (given_does (k + length xs) late (second_stands code k xs storing stands) g))
 
@@ -104,7 +104,7 @@ module _ (code : List ℕ) (turns : ℕ) (l : Layout) (laid : IsLaidOut l) (here
       let none : k ≡ k + 0 = omega arith in
       let late : lag ≡ lag + 0 = omega arith in (
         m,
-        leads_still code (Running m),
+        passes_still code s.sites (Running m),
         subst (λ p. With here.objects l p (lag + 0) [] (record s { kept = to s.kept }) m) none
             (subst (λ w. With here.objects l k w [] (record s { kept = to s.kept }) m) late (subst (λ kept. With here.objects l k lag [] (record s { kept = kept }) m) (sym (same s.kept)) at)),
       )
@@ -124,8 +124,8 @@ module _ (code : List ℕ) (turns : ℕ) (l : Layout) (laid : IsLaidOut l) (here
       let stored = stored_does code turns l laid here called scalars value numbered.number numbered.room n (k + length xs) late (opening_number object) to numbered.variable
       (λ kept u agrees. same kept ∙ one_number n late (opening_number object) _ (opening_of object) kept u numbered.variable numbered.converts refl agrees)
       (second_stands code k xs rest stands) s made.0 made.2 in
-      subst (λ p. Comes code turns (Running m) (λ done. 0) (λ done. At p late) (changing to s)) whole
-      (later code 0 turns turns (Running m) made.0 (λ done. 0) (λ done. 0) (λ done. At (k + length xs + length rest) late) (changing to s) (omega arith) (λ done. omega arith) made.1 stored)
+      subst (λ p. Comes code turns (Running m) s.sites (λ done. 0) (λ done. At p late) (changing to s)) whole
+      (later code 0 turns turns s.sites s.sites (Running m) made.0 (λ done. 0) (λ done. 0) (λ done. At (k + length xs + length rest) late) (changing to s) (omega arith) (λ done. omega arith) made.1 stored)
 
   opened_does : (n k lag : ℕ) (object : Object) (storage : Storage) → slice_get here.objects n ≡ Some object → object.storage ≡ storage → IsOpened here.objects l storage n object
       → StandHere code k (opened_code here.objects l storage n object)

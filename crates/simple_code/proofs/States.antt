@@ -21,6 +21,7 @@ use Rattle.code_memory.proofs.Words.{words_are_kept}
 use Rattle.code_stacks.specs.Places.{Layout, IsLaidOut}
 use Rattle.code_stacks.specs.Agreement.{IsHeld, Agrees}
 use Rattle.code_stacks.proofs.Keeping.{Keeps, variable_at}
+use Rattle.code_lines.specs.Words.{Code}
 
 -- ---- the count
 
@@ -102,7 +103,7 @@ unequal : (a b : ℕ) → (a == b) ≡ false → a ≢ b
 unequal a b apart e = grind (arith, nat_tests)
 
 -- a variable has a new number, in its width
-module _ (objects : List Object) (l : Layout) (laid : IsLaidOut l) (lag k n : ℕ) (width : Width) (x : ℤ) (kept : Kept) (m t : MachineState) (is : l.is_variable n ≡ true) (wide : (shape_of objects n).width ≡ width)
+module _ {code : Code} (objects : List Object) (l : Layout) (laid : IsLaidOut code l) (lag k n : ℕ) (width : Width) (x : ℤ) (kept : Kept) (m t : MachineState) (is : l.is_variable n ≡ true) (wide : (shape_of objects n).width ≡ width)
     (agrees : Agrees objects l lag kept m) (stored : IsStored k (l.slot n) (converted width x) m t) (fits : FitsWidth width (converted width x)) where
   abbrev c : ℤ
   c = converted width x

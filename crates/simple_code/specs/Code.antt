@@ -9,8 +9,8 @@ use Rattle.operator_meaning.specs.declared.site.SiteKind.TheVariants as kind
 use Rattle.source_runs.specs.Shapes.{shape_of}
 use Rattle.typed_meaning.specs.Expressions.{site_at}
 use Rattle.typed_meaning.specs.Statements.{step_mark}
-use Rattle.rv_encode.specs.declared.instruction.Instr.{Instr}
-use Rattle.rv_encode.specs.declared.instruction.Instr.TheVariants.{Addi, Ecall}
+use Rattle.code_lines.specs.declared.word.Word.{Word}
+use Rattle.code_lines.specs.Own.{Addi, Ecall}
 use Rattle.ir_arena.specs.Tree.{IrTree, IrTarget, Constant, Read, Operate, Binary, Write, Step, WriteFlag, Out, AddCount, Variable, end, more}
 use Rattle.code_memory.specs.Memory.{store_code}
 use Rattle.code_stacks.specs.Places.{Layout}
@@ -22,7 +22,7 @@ abbrev pub value_register : ℕ
 value_register = 8
 
 -- a sample is written by the environment call 3, of x10
-abbrev pub out_line : List Instr
+abbrev pub out_line : List Word
 out_line = Addi 10 value_register (pos 0) ∷ Addi 17 0 (pos 3) ∷ []
 
 -- ---- what is assigned
@@ -46,12 +46,12 @@ stepped_by target up site = computed target (step_mark up) site (Constant (pos 1
 
 module _ (objects : List Object) (l : Layout) where
   -- a value is converted to the width of the variable, and goes to its word
-  abbrev pub assigned_code : IrTarget → IrTree → List Instr
+  abbrev pub assigned_code : IrTarget → IrTree → List Word
   assigned_code (Variable n) value =
       expression_code objects l value 0 ++ (convert_code objects l (shape_of objects n).width (fits_sixteen objects value) 0 ++ store_code value_register (l.slot n))
   assigned_code target value = []
 
-  abbrev pub simple_code : IrTree → List Instr
+  abbrev pub simple_code : IrTree → List Word
   simple_code (Write target mark width site value) = assigned_code target (written_by target mark site value)
   simple_code (Step target up width site) = assigned_code target (stepped_by target up site)
   simple_code (WriteFlag value) = expression_code objects l value 0 ++ Addi 27 value_register (pos 0) ∷ []

@@ -5,7 +5,7 @@ use Rattle.operator_meaning.specs.declared.object.Storage.{Storage}
 use Rattle.operator_meaning.specs.declared.object.Storage.TheVariants.{Static}
 use Rattle.source_runs.specs.Shapes.{shape_of, opening_of}
 use Rattle.source_runs.specs.State.{converted}
-use Rattle.rv_encode.specs.declared.instruction.Instr.{Instr}
+use Rattle.code_lines.specs.declared.word.Word.{Word}
 use Rattle.ir_arena.specs.Tree.{IrTree, Constant, Variable}
 use Rattle.code_stacks.specs.Places.{Layout}
 use Rattle.expression_code.specs.Code.{weight_of}
@@ -21,16 +21,16 @@ abbrev pub opening_number : Object → ℤ
 opening_number object = first_of (opening_of object)
 
 module _ (objects : List Object) (l : Layout) where
-  abbrev pub opened_code : Storage → ℕ → Object → List Instr
+  abbrev pub opened_code : Storage → ℕ → Object → List Word
   opened_code Static n object = []
   opened_code storage n object = assigned_code objects l (Variable n) (Constant (opening_number object))
 
-  abbrev pub opening_code : ℕ → Option Object → List Instr
+  abbrev pub opening_code : ℕ → Option Object → List Word
   opening_code n None = []
   opening_code n (Some object) = opened_code object.storage n object
 
   -- with the value that it has, if any
-  abbrev pub start_code : ℕ → Option IrTree → List Instr
+  abbrev pub start_code : ℕ → Option IrTree → List Word
   start_code n None = opening_code n (slice_get objects n)
   start_code n (Some value) = assigned_code objects l (Variable n) value
 

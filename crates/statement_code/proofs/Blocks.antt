@@ -8,7 +8,7 @@ use Rattle.typed_meaning.specs.Statements.{start_meaning, option_of}
 use Rattle.ir_arena.specs.Tree.{IrTree, IrTrees, Start, end, more}
 use Rattle.tree_meaning.specs.Parts.{openings}
 use Rattle.tree_meaning.specs.Trees.{node_meaning, node_meanings, argument_meaning}
-use Rattle.template_runs.specs.Machine.{StandHere}
+use Rattle.code_lines.specs.Words.{StandHere, Code}
 use Rattle.code_runs.specs.Doing.{Does}
 use Rattle.code_stacks.specs.Places.{Layout, IsLaidOut}
 use Rattle.code_stacks.proofs.Operands.{first_stands, second_stands}
@@ -19,7 +19,7 @@ use Rattle.statement_code.specs.Code.{Part, block_part, codes_along}
 use Rattle.statement_code.specs.Laws.{AreReached}
 use Rattle.statement_code.proofs.Parts.{At, Changes, Flows, IsDone, no_change, one_change, then_does, together}
 
-module _ (code : List ℕ) (l : Layout) (laid : IsLaidOut l) (here : Setting) (near has_result : Bool) (called : Called) (scalars : AreScalars here.objects l) where
+module _ (code : Code) (l : Layout) (laid : IsLaidOut code l) (here : Setting) (near has_result : Bool) (called : Called) (scalars : AreScalars here.objects l) where
   abbrev Change : (k lag : ℕ) → Run (Unit {0}) → (end late : ℕ) → Type 0
   Change = Changes code here.turns l laid here near has_result
 

@@ -5,15 +5,15 @@ use Rattle.source_runs.specs.declared.halt.Flow.{Flow}
 use Rattle.source_runs.specs.declared.halt.Flow.TheVariants.{Normal}
 use Rattle.source_runs.specs.Runs.{Run, gives, holds, choosing}
 use Rattle.typed_meaning.specs.Expressions.{Setting, Called}
-use Rattle.rv_encode.specs.declared.instruction.Instr.{Instr}
+use Rattle.code_lines.specs.declared.word.Word.{Word}
+use Rattle.code_lines.specs.Words.{StandHere, Code}
 use Rattle.rv_encode.specs.State.{MachineState, Running}
 use Rattle.ir_arena.specs.Tree.{IrTree}
 use Rattle.tree_meaning.specs.Trees.{value_meaning}
-use Rattle.template_runs.specs.Machine.{StandHere}
 use Rattle.code_jumps.specs.Jumps.{reach_of}
 use Rattle.code_runs.specs.Doing.{Bond, Does, Moves, one_of_two, side}
 use Rattle.code_runs.proofs.Parts.{later, moves_on, nothing, one_of}
-use Rattle.code_runs.proofs.Steps.{leads_at_all, leads_still}
+use Rattle.code_lines.proofs.Leading.{leads_at_all, leads_nowhere}
 use Rattle.code_stacks.specs.Places.{Layout, IsLaidOut}
 use Rattle.code_stacks.proofs.Operands.{first_stands, second_stands}
 use Rattle.expression_code.specs.Laws.{AreScalars}
@@ -23,12 +23,13 @@ use Rattle.condition_code.proofs.Conditions.{condition_does}
 use Rattle.statement_code.specs.Laws.{AreReached, IsTest, Targets}
 use Rattle.statement_code.specs.Code.{before, Part, choice, first_branch, guarded_code, skip_code, whole_code}
 use Rattle.statement_code.proofs.Parts.{At, Flows, IsDone, flows_on, leaves, left_steady, reached_before, stay, whole_done, whole_steady}
+use Rattle.code_runs.proofs.Steps.{passes_still}
 
 swapped : (a b : Bond) (c : Bool) (s : _) (m : MachineState) → side a b (not c) s m → side b a c s m
 swapped a b true s m has = has
 swapped a b false s m has = has
 
-module _ (code : List ℕ) (turns : ℕ) (l : Layout) (laid : IsLaidOut l) (here : Setting) (near has_result : Bool) (called : Called) (scalars : AreScalars here.objects l) where
+module _ (code : Code) (turns : ℕ) (l : Layout) (laid : IsLaidOut code l) (here : Setting) (near has_result : Bool) (called : Called) (scalars : AreScalars here.objects l) where
   abbrev Stands : (k lag : ℕ) → Bond
   Stands = At code turns l laid here near has_result
 
@@ -38,11 +39,11 @@ module _ (code : List ℕ) (turns : ℕ) (l : Layout) (laid : IsLaidOut l) (here
   abbrev Good : Part → Run Flow → ℕ → Type 0
   Good = IsDone code turns l laid here near has_result
 
-  abbrev guard : IrTree → (lag : ℕ) → (guarded : List Instr) → List Instr
+  abbrev guard : IrTree → (lag : ℕ) → (guarded : List Word) → List Word
   guard cond lag guarded = condition_code here.objects l (reach_of (length guarded)) 0 cond false lag (pos (length guarded))
 
   -- a condition that leads over what it guards
-  guarded_done : (cond : IrTree) (k lag : ℕ) (guarded : List Instr) → IsTest l cond → lag + weight_of_condition cond < 2 ^ 31 → StandHere code k (guarded_code here.objects l near cond lag guarded)
+  guarded_done : (cond : IrTree) (k lag : ℕ) (guarded : List Word) → IsTest l cond → lag + weight_of_condition cond < 2 ^ 31 → StandHere code k (guarded_code here.objects l near cond lag guarded)
       → Does code turns (Stands k lag) (value_meaning here called cond) (one_of_two (Stands (k + length (guard cond lag guarded)) 0) (Stands (k + length (guarded_code here.objects l near cond lag guarded)) 0))
   guarded_done cond k lag guarded test small stands =
       let c = guard cond lag guarded in
@@ -52,10 +53,10 @@ module _ (code : List ℕ) (turns : ℕ) (l : Layout) (laid : IsLaidOut l) (here
       let does = condition_does code turns l laid here called scalars (reach_of (length guarded)) cond false k lag [] (pos (length guarded)) end test.0 (omega (arith, test.1)) small (first_stands code k c guarded stands)
       (omega (arith, ints, length-append c guarded)) within in
       moves_on code turns (Stands k lag) (value_meaning here called cond) (Decided here.objects l end own [] false) (one_of_two (Stands own 0) (Stands end 0))
-      (λ s m has. later code 0 turns turns (Running m) m (one_if_met false) (λ a. 0) (Decided here.objects l end own [] false) (value_meaning here called cond s) (omega arith) (λ a. omega arith) (leads_still code (Running m)) (does s m has))
-      (λ value s m has. (m, leads_at_all code 0 (Running m) (Running m) (leads_still code (Running m)), swapped (Stands end 0) (Stands own 0) (holds value) s m has))
+      (λ s m has. later code 0 turns turns s.sites s.sites (Running m) m (one_if_met false) (λ a. 0) (Decided here.objects l end own [] false) (value_meaning here called cond s) (omega arith) (λ a. omega arith) (passes_still code s.sites (Running m)) (does s m has))
+      (λ value s m has. (m, leads_at_all code 0 (Running m) (Running m) (leads_nowhere code (Running m)), swapped (Stands end 0) (Stands own 0) (holds value) s m has))
 
-  guarded_steady : (cond : IrTree) (lag : ℕ) (one other : List Instr) → length one ≡ length other → length (guarded_code here.objects l near cond lag one) ≡ length (guarded_code here.objects l near cond lag other)
+  guarded_steady : (cond : IrTree) (lag : ℕ) (one other : List Word) → length one ≡ length other → length (guarded_code here.objects l near cond lag one) ≡ length (guarded_code here.objects l near cond lag other)
   guarded_steady cond lag one other same =
       let conditions = ap (λ n. length (condition_code here.objects l (reach_of n) 0 cond false lag (pos n))) same in
       omega (arith, same, conditions, length-append (guard cond lag one) one, length-append (guard cond lag other) other)

@@ -9,22 +9,23 @@ use Rattle.source_runs.specs.Runs.{Run, all_of, ◌>>◌}
 use Rattle.source_runs.specs.State.{SourceState}
 use Rattle.source_runs.proofs.Turning.{all_of-end, all_of-next, in_sequence-next}
 use Rattle.typed_meaning.specs.Expressions.{Setting}
-use Rattle.rv_encode.specs.declared.instruction.Instr.{Instr}
+use Rattle.code_lines.specs.declared.word.Word.{Word}
+use Rattle.code_lines.specs.Words.{StandHere, Code}
 use Rattle.rv_encode.specs.State.{MachineState, Running}
-use Rattle.rv_encode.proofs.Leads.{leads_nowhere}
-use Rattle.template_runs.specs.Machine.{StandHere}
+use Rattle.code_lines.proofs.Leading.{leads_nowhere}
 use Rattle.code_lines.specs.Pieces.{flush_code}
 use Rattle.code_jumps.specs.Jumps.{past_code}
 use Rattle.code_jumps.proofs.Jumps.{past_steady}
-use Rattle.code_runs.specs.Doing.{Bond, Does, LeadsLater, Moves}
+use Rattle.code_runs.specs.Doing.{Bond, Does, Moves}
+use Rattle.code_lines.specs.Leading.{LeadsLater}
 use Rattle.code_runs.proofs.Parts.{in_turn, nothing, moves_on}
-use Rattle.code_runs.proofs.Steps.{leads_later}
 use Rattle.code_stacks.specs.Places.{Layout, IsLaidOut}
 use Rattle.code_stacks.specs.Agreement.{IsWith, With}
 use Rattle.code_stacks.proofs.Operands.{first_stands, second_stands}
 use Rattle.expression_code.proofs.Deciding.{flush_moves as weight_moves, leaves as jump_leaves}
 use Rattle.statement_code.specs.Laws.{AreReached, Led, Targets, result_of}
 use Rattle.statement_code.specs.Code.{Exits, before, Part, codes_along, lags_along, whole_code, left_code}
+use Rattle.code_runs.proofs.Steps.{passes_still}
 
 -- a jump has the same length at each distance
 pub left_steady : (objects : List Object) (l : Layout) (near : Bool) (lag : ℕ) (d d2 : ℤ) → length (left_code objects l near lag d) ≡ length (left_code objects l near lag d2)
@@ -47,7 +48,7 @@ reached_before place words later ways targets whole reached =
       returned_near = reached.returned_near;
     }
 
-module _ (code : List ℕ) (turns : ℕ) (l : Layout) (laid : IsLaidOut l) (here : Setting) (near has_result : Bool) where
+module _ (code : Code) (turns : ℕ) (l : Layout) (laid : IsLaidOut code l) (here : Setting) (near has_result : Bool) where
   abbrev pub At : (k lag : ℕ) → Bond
   At k lag = With here.objects l k lag []
 
@@ -123,7 +124,7 @@ module _ (code : List ℕ) (turns : ℕ) (l : Layout) (laid : IsLaidOut l) (here
   no_parts = record {
     does = λ k lag ways targets small stands reached s m at.
         let none : k ≡ k + 0 = omega arith in
-        (m, leads_later code (Running m) (Running m) (leads_nowhere code (Running m)), subst (λ n. At n lag s m) none at);
+        (m, passes_still code s.sites (Running m), subst (λ n. At n lag s m) none at);
     bounded = λ lag. omega arith;
     steady = λ lag ways other. refl;
   }
@@ -177,7 +178,7 @@ module _ (code : List ℕ) (turns : ℕ) (l : Layout) (laid : IsLaidOut l) (here
   unfolding ◌>>◌
   then_does before first next between after does does_next = in_turn code turns before first between (λ done. next) after does (λ done. does_next)
 
-  pub one_change : (xs ys : List Instr) (run : Run (Unit {0})) (runs : List (Run (Unit {0}))) (k lag weight weights : ℕ) → Changes k lag run (k + length xs) (lag + weight)
+  pub one_change : (xs ys : List Word) (run : Run (Unit {0})) (runs : List (Run (Unit {0}))) (k lag weight weights : ℕ) → Changes k lag run (k + length xs) (lag + weight)
       → Changes (k + length xs) (lag + weight) (all_of runs) (k + length xs + length ys) (lag + weight + weights)
       → Changes k lag (all_of (run ∷ runs)) (k + length (xs ++ ys)) (lag + (weight + weights))
   one_change xs ys run runs k lag weight weights does others =

@@ -7,15 +7,14 @@ use Rattle.source_runs.specs.Runs.{Run, choosing, gives, ◌>>◌}
 use Rattle.typed_meaning.specs.Expressions.{Setting, Called}
 use Rattle.typed_meaning.specs.Statements.{return_meaning}
 use Rattle.rv_encode.specs.State.{Running}
-use Rattle.rv_encode.proofs.Leads.{leads_nowhere}
+use Rattle.code_lines.proofs.Leading.{leads_nowhere, leads_at_all}
 use Rattle.ir_arena.specs.Tree as tree
 use Rattle.ir_arena.specs.Tree.{IrTree, IrTrees, end, more}
 use Rattle.tree_meaning.specs.Parts.{NodeMeaning}
 use Rattle.tree_meaning.specs.Trees.{node_meaning, node_meanings, statement_meaning, value_meaning}
-use Rattle.template_runs.specs.Machine.{StandHere}
+use Rattle.code_lines.specs.Words.{StandHere, Code}
 use Rattle.code_runs.specs.Doing.{Bond, Moves}
 use Rattle.code_runs.proofs.Parts.{in_turn, nothing}
-use Rattle.code_runs.proofs.Steps.{leads_at_all}
 use Rattle.code_stacks.specs.Places.{Layout, IsLaidOut}
 use Rattle.code_stacks.specs.Agreement.{With}
 use Rattle.code_stacks.proofs.Operands.{first_stands, second_stands}
@@ -32,7 +31,7 @@ use Rattle.statement_code.proofs.Blocks.{block_done}
 use Rattle.statement_code.proofs.Choosing.{one_branch, two_branches}
 use Rattle.statement_code.proofs.Turns.{loop_done}
 
-module _ (code : List ℕ) (l : Layout) (laid : IsLaidOut l) (here : Setting) (near has_result : Bool) (called : Called) (scalars : AreScalars here.objects l) where
+module _ (code : Code) (l : Layout) (laid : IsLaidOut code l) (here : Setting) (near has_result : Bool) (called : Called) (scalars : AreScalars here.objects l) where
   abbrev Good : Part → Run Flow → ℕ → Type 0
   Good = IsDone code here.turns l laid here near has_result
 

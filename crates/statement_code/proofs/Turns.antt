@@ -11,18 +11,17 @@ use Rattle.source_runs.specs.Loops.{looping, turns_of}
 use Rattle.source_runs.specs.Runs.{Run, all_of, gives, ◌>>◌}
 use Rattle.typed_meaning.specs.Expressions.{Setting, Called}
 use Rattle.typed_meaning.specs.Statements.{condition_or_one}
-use Rattle.rv_encode.specs.declared.instruction.Instr.{Instr}
+use Rattle.code_lines.specs.declared.word.Word.{Word}
+use Rattle.code_lines.specs.Words.{StandHere, Code}
 use Rattle.rv_encode.specs.State.{Running}
 use Rattle.ir_arena.specs.Tree.{IrTree, IrTrees, Not, Binary, end, more}
 use Rattle.tree_meaning.specs.Parts.{NodeMeaning, loop_meaning}
 use Rattle.tree_meaning.specs.Trees.{node_meaning, node_meanings}
-use Rattle.template_runs.specs.Machine.{StandHere}
 use Rattle.code_lines.specs.Pieces.{flush_code}
 use Rattle.code_jumps.specs.Jumps.{Reach, Test, Unequal, branch_code, jump_where, reach_of, sensed}
 use Rattle.code_jumps.proofs.Branches.{same_length}
 use Rattle.code_runs.specs.Doing.{Bond, Does, DoesIn, one_of_two, one_where_it_holds}
 use Rattle.code_runs.proofs.Parts.{later, moved, moves_on, nothing, one_of, turns_are}
-use Rattle.code_runs.proofs.Steps.{leads_still}
 use Rattle.code_stacks.specs.Places.{Layout, IsLaidOut}
 use Rattle.code_stacks.specs.Operands.{fetches, operand_register}
 use Rattle.code_stacks.proofs.Operands.{first_stands, second_stands}
@@ -36,10 +35,11 @@ use Rattle.statement_code.specs.Laws.{AreReached, AreSimple, AreTests, Targets, 
 use Rattle.statement_code.specs.Code.{Exits, Part, entry_code, last_code, left_code, loop, nowhere, simples_code, skip_code, test_code, turn_exits, turn_words, turns_code, weight_of_all, whole_code}
 use Rattle.statement_code.proofs.Parts.{At, Flows, IsDone, flush_moves, leaves, left_steady, no_change, one_change, stay, then_does, whole_done, whole_steady}
 use Rattle.statement_code.proofs.Choosing.{skips}
+use Rattle.code_runs.proofs.Steps.{passes_still, passes_none}
 
 -- ---- conditions have the same length at each distance
 
-tail_steady : (xs one other : List Instr) → length one ≡ length other → length (xs ++ one) ≡ length (xs ++ other)
+tail_steady : (xs one other : List Word) → length one ≡ length other → length (xs ++ one) ≡ length (xs ++ other)
 tail_steady xs one other same = omega (arith, same, length-append xs one, length-append xs other)
 
 module _ (objects : List Object) (l : Layout) (reach : Reach) (depth : ℕ) where
@@ -72,7 +72,7 @@ module _ (objects : List Object) (l : Layout) (reach : Reach) (depth : ℕ) wher
       (tail_steady (expression_code objects l right (depth + 1)) rest rest2
       (tail_steady (fetches l depth 2) (flush ++ one) (flush ++ two) (tail_steady flush one two (jump_steady sense how.test first second d d2))))
 
-  abbrev second_part : IrTree → (sense : Bool) → ℤ → List Instr
+  abbrev second_part : IrTree → (sense : Bool) → ℤ → List Word
   second_part right sense d = condition_code objects l reach depth right sense 0 d
 
   abbrev IsSteady : IrTree → Type 0
@@ -101,7 +101,7 @@ module _ (objects : List Object) (l : Layout) (reach : Reach) (depth : ℕ) wher
   condition_steady (Binary binary.Ge left right) sense lag d d2 = relation_steady binary.Ge left right sense lag d d2
   condition_steady e sense lag d d2 = value_steady e sense lag d d2
 
-module _ (code : List ℕ) (l : Layout) (laid : IsLaidOut l) (here : Setting) (near has_result : Bool) (called : Called) (scalars : AreScalars here.objects l) where
+module _ (code : Code) (l : Layout) (laid : IsLaidOut code l) (here : Setting) (near has_result : Bool) (called : Called) (scalars : AreScalars here.objects l) where
   abbrev Stands : (k lag : ℕ) → Bond
   Stands = At code here.turns l laid here near has_result
 
@@ -119,7 +119,7 @@ module _ (code : List ℕ) (l : Layout) (laid : IsLaidOut l) (here : Setting) (n
   abbrev pub changes : IrTrees → Run (Unit {0})
   changes parts = all_of (map (λ (part : NodeMeaning). part.change) (node_meanings here called parts))
 
-  abbrev lists : IrTrees → List Instr
+  abbrev lists : IrTrees → List Word
   lists = simples_code here.objects l near
 
   pub simples_do : (parts : IrTrees) (k lag : ℕ) → AreSimple l parts → StandHere code k (lists parts) → Do (Stands k lag) (changes parts) (λ done. Stands (k + length (lists parts)) (lag + weight_of_all parts))
@@ -136,7 +136,7 @@ module _ (code : List ℕ) (l : Layout) (laid : IsLaidOut l) (here : Setting) (n
   abbrev pub tested : IrTrees → Run ℤ
   tested cond = condition_or_one (slice_get (map (λ (part : NodeMeaning). part.value) (node_meanings here called cond)) 0)
 
-  abbrev tests : (words : ℕ) → IrTrees → List Instr
+  abbrev tests : (words : ℕ) → IrTrees → List Word
   tests = test_code here.objects l near
 
   test_does : (cond : IrTrees) (words begin k : ℕ) → AreTests l cond → weight_of_tests cond < 2 ^ 31 → begin + words ≡ k → StandHere code k (tests words cond)
@@ -144,7 +144,8 @@ module _ (code : List ℕ) (l : Layout) (laid : IsLaidOut l) (here : Setting) (n
   test_does end words begin k are small back stands s m at =
       let d = pos 0 -ℤ pos (words + length (left_code here.objects l near 0 (pos 0))) in
       let within = stands.within in
-      leaves code here.turns l laid here near has_result k 0 [] [] d begin s m (omega arith) stands (omega (arith, ints, back, left_steady here.objects l near 0 d (pos 0))) (omega (arith, within, back)) at
+      let to = leaves code here.turns l laid here near has_result k 0 [] [] d begin s m (omega arith) stands (omega (arith, ints, back, left_steady here.objects l near 0 d (pos 0))) (omega (arith, within, back)) at in
+      (to.0, passes_none code 1 s.sites (Running m) (Running to.0) to.1, to.2)
   test_does (more cond rest) words begin k are small back stands s m at =
       let reach = reach_of words in
       let d = pos 0 -ℤ pos (words + length (condition_code here.objects l reach 0 cond true 0 (pos 0))) in
@@ -154,7 +155,7 @@ module _ (code : List ℕ) (l : Layout) (laid : IsLaidOut l) (here : Setting) (n
 
   -- ---- turns
 
-  abbrev turn : Part → (cond last : IrTrees) → Exits → List Instr
+  abbrev turn : Part → (cond last : IrTrees) → Exits → List Word
   turn body cond last ways =
       let ends = last_code here.objects l near last in
       let tail = tests (turn_words here.objects l near body last) cond in
@@ -188,7 +189,7 @@ module _ (code : List ℕ) (l : Layout) (laid : IsLaidOut l) (here : Setting) (n
   unfolding looping
   looping_does cond last run begin test left targets tests_does turns_does =
       one_of code here.turns (Stands test 0) (tested cond) (Stands begin 0) (Stands left 0) (turns_of here.turns (tested cond) (changes last) run) (gives Normal) (Ends targets left 0)
-      (λ s m has. later code 0 here.turns here.turns (Running m) m one_where_it_holds (λ a. 0) (one_of_two (Stands begin 0) (Stands left 0)) (tested cond s) (omega arith) (λ a. omega arith) (leads_still code (Running m)) (tests_does s m has))
+      (λ s m has. later code 0 here.turns here.turns s.sites s.sites (Running m) m one_where_it_holds (λ a. 0) (one_of_two (Stands begin 0) (Stands left 0)) (tested cond s) (omega arith) (λ a. omega arith) (passes_still code s.sites (Running m)) (tests_does s m has))
       turns_does (nothing code here.turns Normal (Stands left 0) (Ends targets left 0) (stay code here.turns l laid here near has_result (Stands left 0)))
 
   -- from the beginning of the body, and from the test

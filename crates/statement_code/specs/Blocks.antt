@@ -1,7 +1,7 @@
 -- The objects of a block, and the code by which they start.
 use Rattle.std.specs.Prelude.{ℕ, suc, zero, ◌+◌, ◌==◌, if◌then◌else◌, List, [], ◌∷◌, ◌++◌, Option, Some, None}
 use Rattle.operator_meaning.specs.declared.object.Object.{Object}
-use Rattle.rv_encode.specs.declared.instruction.Instr.{Instr}
+use Rattle.code_lines.specs.declared.word.Word.{Word}
 use Rattle.ir_arena.specs.Tree.{IrTree, IrTrees, Start, end, more}
 use Rattle.code_stacks.specs.Places.{Layout}
 use Rattle.simple_code.specs.Starts.{start_code, weight_of_start, IsStart}
@@ -37,10 +37,10 @@ weight_of_openings [] = 0
 weight_of_openings (first ∷ rest) = weight_of_opening first + weight_of_openings rest
 
 module _ (objects : List Object) (l : Layout) where
-  abbrev pub opening_code : Opening → List Instr
+  abbrev pub opening_code : Opening → List Word
   opening_code opening = start_code objects l opening.object opening.value
 
-  abbrev pub openings_code : List Opening → List Instr
+  abbrev pub openings_code : List Opening → List Word
   openings_code [] = []
   openings_code (first ∷ rest) = opening_code first ++ openings_code rest
 

@@ -1,7 +1,7 @@
 -- The code of statements over scalars: what declares, changes, chooses, turns and leaves.
 use Rattle.std.specs.Prelude.{ℕ, ◌+◌, ℤ, pos, ◌+ℤ◌, ◌-ℤ◌, Bool, true, false, if◌then◌else◌, List, [], ◌∷◌, ◌++◌, length}
 use Rattle.operator_meaning.specs.declared.object.Object.{Object}
-use Rattle.rv_encode.specs.declared.instruction.Instr.{Instr}
+use Rattle.code_lines.specs.declared.word.Word.{Word}
 use Rattle.ir_arena.specs.Tree.{IrTree, IrTrees, Empty, Block, If, Loop, Leave, Return, end, more}
 use Rattle.code_lines.specs.Pieces.{flush_code}
 use Rattle.code_jumps.specs.Jumps.{past_code, reach_of}
@@ -30,12 +30,12 @@ nowhere = record { again = pos 0; left = pos 0; returned = pos 0 }
 -- The code of a part, by the weight by which the count lags behind before it and by where it leads; and that weight after
 -- it.
 pub record Part : Type 0 where
-  pub code : (lag : ℕ) → Exits → List Instr
+  pub code : (lag : ℕ) → Exits → List Word
   pub after : (lag : ℕ) → ℕ
 
 -- ---- several parts
 
-abbrev pub codes_along : List Part → (lag : ℕ) → Exits → List Instr
+abbrev pub codes_along : List Part → (lag : ℕ) → Exits → List Word
 codes_along [] lag exits = []
 codes_along (first ∷ rest) lag exits =
     first.code lag (before (length (codes_along rest (first.after lag) exits)) exits) ++ codes_along rest (first.after lag) exits
@@ -45,7 +45,7 @@ lags_along [] lag = lag
 lags_along (first ∷ rest) lag = lags_along rest (first.after lag)
 
 -- a part with no lag before it, and none after it; its exits are from the end of all
-abbrev pub whole_code : Part → Exits → List Instr
+abbrev pub whole_code : Part → Exits → List Word
 whole_code part exits = part.code 0 (before (length (flush_code (part.after 0))) exits) ++ flush_code (part.after 0)
 
 -- ---- statements
@@ -58,16 +58,16 @@ module _ (objects : List Object) (l : Layout) (near : Bool) where
   -- ---- jumps
 
   -- a jump to so many words from its end, with the count brought up
-  abbrev pub left_code : (lag : ℕ) → ℤ → List Instr
+  abbrev pub left_code : (lag : ℕ) → ℤ → List Word
   left_code lag distance = flush_code lag ++ past_code near distance
 
   -- a jump over so many words behind it
-  abbrev pub skip_code : (words : ℕ) → List Instr
+  abbrev pub skip_code : (words : ℕ) → List Word
   skip_code words = left_code 0 (pos words)
 
   -- ---- simple parts
 
-  abbrev pub simples_code : IrTrees → List Instr
+  abbrev pub simples_code : IrTrees → List Word
   simples_code end = []
   simples_code (more first rest) = simple_code objects l first ++ simples_code rest
 
@@ -82,11 +82,11 @@ module _ (objects : List Object) (l : Layout) (near : Bool) where
 
   -- ---- choices
 
-  abbrev pub guarded_code : IrTree → (lag : ℕ) → (guarded : List Instr) → List Instr
+  abbrev pub guarded_code : IrTree → (lag : ℕ) → (guarded : List Word) → List Word
   guarded_code cond lag guarded = condition_code objects l (reach_of (length guarded)) 0 cond false lag (pos (length guarded)) ++ guarded
 
   -- the first branch, and the jump over the second
-  abbrev pub first_branch : Part → (other : List Instr) → Exits → List Instr
+  abbrev pub first_branch : Part → (other : List Word) → Exits → List Word
   first_branch this other exits = whole_code this (before (length (skip_code (length other)) + length other) exits) ++ skip_code (length other)
 
   abbrev pub choice : IrTree → Part → List Part → Part
@@ -97,18 +97,18 @@ module _ (objects : List Object) (l : Layout) (near : Bool) where
   -- ---- loops
 
   -- the last parts of a turn, with the count brought up
-  abbrev pub last_code : IrTrees → List Instr
+  abbrev pub last_code : IrTrees → List Word
   last_code last = simples_code last ++ flush_code (weight_of_all last)
 
   -- The test of a turn, over so many words that it leads back: from its end to the beginning of the body where the condition
   -- holds. A missing condition always holds.
-  abbrev pub test_code : (words : ℕ) → IrTrees → List Instr
+  abbrev pub test_code : (words : ℕ) → IrTrees → List Word
   test_code words end = left_code 0 (pos 0 -ℤ pos (words + length (left_code 0 (pos 0))))
   test_code words (more cond rest) =
       condition_code objects l (reach_of words) 0 cond true 0 (pos 0 -ℤ pos (words + length (condition_code objects l (reach_of words) 0 cond true 0 (pos 0))))
 
   -- a loop that tests before its first turn is entered at its test
-  abbrev pub entry_code : (tests_first : Bool) → (words : ℕ) → List Instr
+  abbrev pub entry_code : (tests_first : Bool) → (words : ℕ) → List Word
   entry_code true words = skip_code words
   entry_code false words = []
 
@@ -120,7 +120,7 @@ module _ (objects : List Object) (l : Layout) (near : Bool) where
   abbrev pub turn_words : Part → IrTrees → ℕ
   turn_words body last = length (whole_code body nowhere) + length (last_code last)
 
-  abbrev pub turns_code : (tests_first : Bool) → (cond last : IrTrees) → Part → Exits → List Instr
+  abbrev pub turns_code : (tests_first : Bool) → (cond last : IrTrees) → Part → Exits → List Word
   turns_code tests_first cond last body exits =
       entry_code tests_first (turn_words body last)
       ++ (whole_code body (turn_exits (length (last_code last)) (length (test_code (turn_words body last) cond)) exits) ++ (last_code last ++ test_code (turn_words body last) cond))
@@ -133,7 +133,7 @@ module _ (objects : List Object) (l : Layout) (near : Bool) where
 
   -- ---- statements
 
-  abbrev pub returned_code : IrTrees → (lag : ℕ) → ℤ → List Instr
+  abbrev pub returned_code : IrTrees → (lag : ℕ) → ℤ → List Word
   returned_code end lag distance = left_code lag distance
   returned_code (more value rest) lag distance = expression_code objects l value 0 ++ left_code (lag + weight_of value) distance
 
@@ -151,5 +151,5 @@ module _ (objects : List Object) (l : Layout) (near : Bool) where
     parts_of end = []
     parts_of (more first rest) = part_of first ∷ parts_of rest
 
-  abbrev pub statement_code : IrTree → (lag : ℕ) → Exits → List Instr
+  abbrev pub statement_code : IrTree → (lag : ℕ) → Exits → List Word
   statement_code tree = (part_of tree).code

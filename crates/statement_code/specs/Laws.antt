@@ -5,7 +5,7 @@ use Rattle.source_runs.specs.declared.halt.Flow.{Flow}
 use Rattle.typed_meaning.specs.Expressions.{Setting, Called}
 use Rattle.ir_arena.specs.Tree.{IrTree, IrTrees, Empty, Block, If, Loop, Leave, Return, end, more}
 use Rattle.tree_meaning.specs.Trees.{statement_meaning}
-use Rattle.template_runs.specs.Machine.{StandHere}
+use Rattle.code_lines.specs.Words.{StandHere, Code}
 use Rattle.code_runs.specs.Doing.{Bond, Does, exits}
 use Rattle.code_stacks.specs.Places.{Layout, IsLaidOut}
 use Rattle.code_stacks.specs.Agreement.{With}
@@ -107,8 +107,8 @@ abbrev mutual
 
 -- From its first word, with nothing on the stack, the code does what the statement does, and leads where that leads.
 abbrev pub StatementsAreDone : Type 0
-StatementsAreDone = (code : List ℕ) (l : Layout) (here : Setting) (called : Called) (near has_result : Bool) (tree : IrTree) (k lag : ℕ) (ways : Exits) (targets : Targets)
-    → IsLaidOut l → AreScalars here.objects l → IsStatement here.objects l has_result tree → lag + weight_of_statement tree < 2 ^ 31
+StatementsAreDone = (code : Code) (l : Layout) (here : Setting) (called : Called) (near has_result : Bool) (tree : IrTree) (k lag : ℕ) (ways : Exits) (targets : Targets)
+    → IsLaidOut code l → AreScalars here.objects l → IsStatement here.objects l has_result tree → lag + weight_of_statement tree < 2 ^ 31
     → StandHere code k (statement_code here.objects l near tree lag ways) → AreReached (k + length (statement_code here.objects l near tree lag ways)) ways targets
     → Does code here.turns (With here.objects l k lag []) (statement_meaning here called tree)
     (Led here.objects l has_result targets (k + length (statement_code here.objects l near tree lag ways)) ((part_of here.objects l near tree).after lag))

@@ -14,11 +14,13 @@ use Rattle.rv_encode.proofs.Places.{most_words, fetched_at}
 use Rattle.template_runs.specs.Courses.{Course, Final, Lost, is_scratch, is_call, is_changed, are_changed, final, runs}
 use Rattle.template_runs.specs.Parts.{part_of}
 use Rattle.template_runs.specs.Machine.{IsBefore, IsFinal, begun, CoursesAreRuns}
+use Rattle.template_runs.specs.Visits.{visited, Ascend}
 use Rattle.template_runs.specs.declared.registers.Registers.{Registers}
 use Rattle.template_runs.specs.Renaming.{AreInRange, AreApart, renamed, over, all_over}
 use Rattle.template_runs.proofs.Effects.{part_effect}
 use Rattle.template_runs.proofs.Names.{is_named, and_parts}
 use Rattle.template_runs.proofs.Steps.{IsAt, Comes, part_follows}
+use Rattle.template_runs.proofs.Visits.{ascend_within}
 
 -- ---- after the last word
 
@@ -83,14 +85,15 @@ final_there regs k may start s c may_is here = by_test (c.known 8 && c.known 27 
 
 module _ (regs : Registers) (range : AreInRange regs) (code : List ℕ) (may : Bool) (start : MachineState) where
   pub follows : (instrs : List Instr) (k skip : ℕ) (c : Course) (s : MachineState) → c.calls ≡ may → All Fits (all_over regs instrs) → Stand code k (all_over regs instrs) → k + length instrs ≤ most_words
-      → IsAt regs (k + skip) start s c → Comes regs may code (k + length instrs) (length instrs) start (Running s) (runs instrs skip c)
+      → IsAt regs (k + skip) start s c → Comes regs may code k (k + length instrs) (length instrs) start (Running s) (runs instrs skip c)
   follows [] k zero c s may_is fit stand small here =
       let zero_is : k + 0 ≡ k + length {A = Instr} [] = omega arith in (
         0,
         omega arith,
+        tt,
         subst (λ p. IsFinal regs.result may p start (Running s) (final c)) zero_is (final_there regs (k + 0) may start s c may_is here),
       )
-  follows [] k (suc skip) c s may_is fit stand small here = (0, omega arith, tt)
+  follows [] k (suc skip) c s may_is fit stand small here = (0, omega arith, tt, tt)
   follows (instr ∷ instrs) k (suc skip) c s may_is fit stand small here =
       let place : k + suc skip ≡ k + 1 + skip = omega arith in
       let end : k + 1 + length instrs ≡ k + length (instr ∷ instrs) = omega arith in
@@ -99,7 +102,8 @@ module _ (regs : Registers) (range : AreInRange regs) (code : List ℕ) (may : B
       let few = there.1 in (
         there.0,
         omega arith,
-        subst (λ p. IsFinal regs.result may p start (moment_after code there.0 (Running s)) (runs instrs skip c)) end there.2,
+        subst (λ p. Ascend k p (visited code there.0 (Running s))) end (ascend_within (k + 1) k _ _ (omega arith) (omega arith) _ there.2),
+        subst (λ p. IsFinal regs.result may p start (moment_after code there.0 (Running s)) (runs instrs skip c)) end there.3,
       )
   follows (instr ∷ instrs) k zero c s may_is fit stand small here =
       let own = over regs instr in
@@ -117,8 +121,15 @@ module _ (regs : Registers) (range : AreInRange regs) (code : List ℕ) (may : B
       let final_is = runs (instr ∷ instrs) 0 c in (
         suc there.0,
         omega arith,
+        (
+          k,
+          omega arith,
+          omega arith,
+          at.pc,
+          subst (λ p. Ascend (k + 1) p (visited code there.0 (next_moment code (Running s)))) end (subst (λ m. Ascend (k + 1) (k + 1 + length instrs) (visited code there.0 m)) (sym effect) there.2),
+        ),
         subst (λ p. IsFinal regs.result may p start (moment_after code there.0 (next_moment code (Running s))) final_is) end
-            (subst (λ m. IsFinal regs.result may (k + 1 + length instrs) start (moment_after code there.0 m) final_is) (sym effect) there.2),
+            (subst (λ m. IsFinal regs.result may (k + 1 + length instrs) start (moment_after code there.0 m) final_is) (sym effect) there.3),
       )
 
 -- ---- where it begins

@@ -1,5 +1,6 @@
 pub mod Effects
 pub mod Names
+pub mod Visits
 pub mod Steps
 pub mod Follows
 pub mod Fits

@@ -15,6 +15,7 @@ use Rattle.rv_encode.proofs.Places.{most_words, next_pc_of, target_pc_of, whole_
 use Rattle.template_runs.specs.Courses.{Course, Final, Stops, Lost, Rest, may_be_one, is_writable, known_after, sets_value, jumps_by, takes_sample, call_of, step_of}
 use Rattle.template_runs.specs.Parts.{Part, Sets, Jumps, Calls, Other}
 use Rattle.template_runs.specs.Machine.{IsFinal}
+use Rattle.template_runs.specs.Visits.{visited, Ascend}
 use Rattle.template_runs.specs.declared.registers.Registers.{Registers}
 use Rattle.template_runs.specs.Renaming.{AreInRange, AreApart, renamed}
 use Rattle.template_runs.proofs.Effects.{HasEffect}
@@ -65,12 +66,14 @@ pub record IsAt (regs : Registers) (k : ℕ) (start s : MachineState) (c : Cours
   pub memory : s.memory ≡ start.memory
   pub output : s.output ≡ start.output
 
--- within a number of instructions the machine comes from a moment to where a course comes
-abbrev pub Comes : (regs : Registers) → (calls : Bool) → List ℕ → (end most : ℕ) → MachineState → Moment → Final → Type 0
-Comes regs may code end most start at there = (n : ℕ) × (n ≤ most) × IsFinal regs.result may end start (moment_after code n at) there
+-- within a number of instructions the machine comes from a moment to where a course comes, by words from the word of a
+-- number on, each behind those before it
+abbrev pub Comes : (regs : Registers) → (calls : Bool) → List ℕ → (from end most : ℕ) → MachineState → Moment → Final → Type 0
+Comes regs may code from end most start at there =
+    (n : ℕ) × (n ≤ most) × Ascend from end (visited code n at) × IsFinal regs.result may end start (moment_after code n at) there
 
 module _ (regs : Registers) (range : AreInRange regs) (code : List ℕ) (k end most : ℕ) (may : Bool) (start s : MachineState) (rest : Rest) (c : Course) (may_is : c.calls ≡ may) (here : IsAt regs k start s c) (small : k ≤ most_words)
-    (on : (skip : ℕ) (d : Course) (t : MachineState) → d.calls ≡ may → IsAt regs (k + 1 + skip) start t d → Comes regs may code end most start (Running t) (rest skip d)) where
+    (on : (skip : ℕ) (d : Course) (t : MachineState) → d.calls ≡ may → IsAt regs (k + 1 + skip) start t d → Comes regs may code (k + 1) end most start (Running t) (rest skip d)) where
   -- the next word
   next_place : next_pc s.pc ≡ pc_of (k + 1 + 0)
   next_place =
@@ -127,10 +130,10 @@ module _ (regs : Registers) (range : AreInRange regs) (code : List ℕ) (k end m
       }
 
   abbrev There : Moment → Final → Type 0
-  There at there = Comes regs may code end most start at there
+  There at there = Comes regs may code (k + 1) end most start at there
 
   lost : (at : Moment) → There at Lost
-  lost at = (0, omega arith, tt)
+  lost at = (0, omega arith, tt, tt)
 
   -- where a test holds, and else the course is lost
   there_if : (b : Bool) (at : Moment) (there : Final) → (b ≡ true → There at there) → There at (if b then there else Lost)
@@ -212,7 +215,7 @@ module _ (regs : Registers) (range : AreInRange regs) (code : List ℕ) (k end m
   stop_there : There (Over (Stopped (cast_unsigned w32 (register s 10))) s.output) (if c.known 10 then Stops (c.value 10) else Lost)
   stop_there =
       there_if (c.known 10) (Over (Stopped (cast_unsigned w32 (register s 10))) s.output) (Stops (c.value 10)) (λ known.
-      (0, omega arith, ap (λ v. Over (Stopped (cast_unsigned w32 v)) s.output) (here.values 10 known) ∙ ap (Over (Stopped (cast_unsigned w32 (c.value 10)))) here.output))
+      (0, omega arith, tt, ap (λ v. Over (Stopped (cast_unsigned w32 v)) s.output) (here.values 10 known) ∙ ap (Over (Stopped (cast_unsigned w32 (c.value 10)))) here.output))
 
   call_there : (number : ℤ) → There (calls s number) (call_of number rest c)
   call_there number =

@@ -1,4 +1,5 @@
 pub mod Machine
+pub mod Visits
 pub mod Courses
 pub mod Parts
 pub mod Values

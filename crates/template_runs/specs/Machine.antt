@@ -9,6 +9,7 @@ use Rattle.rv_encode.specs.Words.{Fits}
 use Rattle.template_runs.specs.Courses.{Course, Final, Ends, Stops, Lost, is_scratch, is_call, runs}
 use Rattle.template_runs.specs.declared.registers.Registers.{Registers}
 use Rattle.template_runs.specs.Renaming.{AreInRange, AreApart, all_over}
+use Rattle.template_runs.specs.Visits.{visited, Ascend}
 
 -- instructions stand in the code from the word of this number on, with fields in their ranges
 pub record StandHere (code : List ℕ) (k : ℕ) (instrs : List Instr) : Type 0 where
@@ -58,10 +59,11 @@ abbrev pub course_of : Registers → (apart : ℕ → Bool) → (calls in_place 
 course_of regs apart calls in_place s instrs =
     runs instrs 0 (begun apart calls in_place (register s regs.first) (register s regs.second) (register s regs.third) (register s OVERFLOW) s.input)
 
--- Where the course of a template ends, the machine comes, in at most as many instructions as there are words. The
--- course may know of operands that they are apart from the result, and of the first that the result is in its place.
+-- Where the course of a template ends, the machine comes, in at most as many instructions as there are words, of which
+-- each stands behind those before it. The course may know of operands that they are apart from the result, and of the first that the result is in its place.
 abbrev pub CoursesAreRuns : Type 0
 CoursesAreRuns = (regs : Registers) (apart : ℕ → Bool) (calls in_place : Bool) (instrs : List Instr) (code : List ℕ) (k : ℕ) (s : MachineState)
     → AreInRange regs → AreApart regs apart → (in_place ≡ true → regs.result ≡ regs.first)
     → StandHere code k (all_over regs instrs) → IsBefore k s
-    → (n : ℕ) × (n ≤ length instrs) × IsFinal regs.result calls (k + length instrs) s (moment_after code n (Running s)) (course_of regs apart calls in_place s instrs)
+    → (n : ℕ) × (n ≤ length instrs) × Ascend k (k + length instrs) (visited code n (Running s))
+    × IsFinal regs.result calls (k + length instrs) s (moment_after code n (Running s)) (course_of regs apart calls in_place s instrs)
