@@ -7,7 +7,7 @@ use Rattle.ir_arena.specs.declared.ir.IrFunction.{IrFunction}
 use Rattle.ir_arena.specs.Placed.{function_of}
 use Rattle.ir_cuts.specs.Cuts.{cuts_from}
 use Rattle.whole_trees.specs.Sources.{setting_for, function_at, numbers_defined, defined_functions, functions_along, main_in, renumbered}
-use Rattle.ir_build.specs.Built.{IsTreeBy}
+use Rattle.lawful_ir.specs.Built.{IsTreeBy}
 
 module _ (typed : Typed) (definitions : List (ℕ × At)) (made : List IrFunction) where
   -- the functions are those of the source

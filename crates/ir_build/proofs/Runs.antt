@@ -6,7 +6,7 @@ use Rattle.ir_arena.specs.Tree.{IrWhole}
 use Rattle.tree_meaning.specs.Observed.{tree_observed, tree_trace}
 use Rattle.source_agreement.specs.Agreement.{HasTree}
 use Rattle.source_agreement.proofs.Whole.{source_agrees}
-use Rattle.ir_build.specs.Built.{IsTreeOf, DoesAs}
+use Rattle.lawful_ir.specs.Built.{IsTreeOf, DoesAs}
 
 pub trees_do : (typed : Typed) (ir : Ir) → IsTreeOf typed ir → HasTree typed → DoesAs typed ir
 trees_do typed ir of has =

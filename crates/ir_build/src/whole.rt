@@ -7,7 +7,8 @@ ghost use Rattle.ir_expressions.specs.Building.{AreShort};
 ghost use Rattle.ir_cuts.specs.Cuts.{cuts_from};
 ghost use Rattle.whole_trees.specs.Sources.{setting_for, function_at, numbers_defined, defined_functions, functions_along, main_in, renumbered};
 ghost use Rattle.lawful_sources.specs.Lawful.{IsLawful};
-ghost use Rattle.ir_build.specs.Built.{IsTreeOf, DoesAs};
+ghost use Rattle.lawful_ir.specs.Built.{IsTreeOf, DoesAs};
+ghost use Rattle.lawful_ir.specs.Lawful.{IsLawfulTree};
 
 use bumpalo::Bump;
 use c_typed::Typed;
@@ -74,8 +75,8 @@ fn with_functions<'a>(
     })
 }
 
-/// The tree of a lawful source, in the arena: one node for each statement, expression and implied conversion. It does
-/// what the source does. The order is one of the source's functions; where there is one, no function reaches itself.
+/// The tree of a lawful source, in the arena: one node for each statement, expression and implied conversion. It is
+/// lawful, and does what the source does. The order is one of the source's functions; where there is one, no function reaches itself.
 pub fn build<'a>(
     alloc: Global,
     bump: &'a Bump,
@@ -85,6 +86,7 @@ pub fn build<'a>(
     requires lawful { IsLawful typed.now }
     requires order { IsCallersFirst typed.now order.now.functions }
     ensures tree { IfOk result (IsTreeOf typed.now) }
+    ensures lawful { IfOk result IsLawfulTree }
     ensures runs { IfOk result (DoesAs typed.now) }
 {
     let definitions = definitions(alloc, typed)?;

@@ -25,7 +25,7 @@ use Rattle.lawful_ir.proofs.Expressions.{argument-walks}
 
 -- ---- numbers that follow one another
 
-same-by : (n m : ℕ) → (n == m) ≡ true → n ≡ m
+pub same-by : (n m : ℕ) → (n == m) ≡ true → n ≡ m
 same-by n m p = grind (arith, nat_tests)
 
 pub follow-earlier : (n : ℕ) (xs ys : List ℕ) → follow_from n (xs ++ ys) ≡ true → follow_from n xs ≡ true

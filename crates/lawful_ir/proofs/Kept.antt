@@ -8,7 +8,7 @@ use Rattle.operator_meaning.specs.declared.site.SiteKind.{SiteKind}
 use Rattle.c_typed.specs.declared.call.Callee.{Callee}
 use Rattle.c_typed.specs.declared.typed.Typed.{Typed}
 use Rattle.ir_arena.specs.declared.ir.Ir.{Ir}
-use Rattle.ir_build.specs.Built.{IsTreeOf}
+use Rattle.lawful_ir.specs.Built.{IsTreeOf}
 use Rattle.typed_meaning.specs.Expressions.{site_at}
 use Rattle.lawful_sources.specs.Lawful.{IsLawful, Everywhere}
 use Rattle.lawful_sources.specs.Rows.{conversion_stands, place_fits, mark_is_numbered, arguments_are_counted, callee_is_defined}

@@ -8,3 +8,4 @@ pub mod Followed
 pub mod Statements
 pub mod Wholes
 pub mod Kept
+pub mod Lines

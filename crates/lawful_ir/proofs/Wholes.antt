@@ -18,7 +18,7 @@ use Rattle.ir_arena.specs.declared.ir.Ir.{Ir}
 use Rattle.ir_arena.specs.declared.ir.IrFunction.{IrFunction}
 use Rattle.ir_arena.specs.Placed.{function_of}
 use Rattle.ir_arena.specs.Tree.{TreeFunction, IrWhole}
-use Rattle.ir_build.specs.Built.{IsTreeOf}
+use Rattle.lawful_ir.specs.Built.{IsTreeOf}
 use Rattle.whole_trees.specs.Sources.{number_in, numbers_of, renumbered, setting_for, body_tree, function_tree, function_at, nameless, functions_along, numbers_defined, defined_functions}
 use Rattle.source_agreement.proofs.Numbers.{number_is, there}
 use Rattle.lawful_sources.specs.Lawful.{IsLawful, Everywhere, is_whole}
@@ -46,7 +46,7 @@ at-flat test f (y ∷ xs) zero x p is = let same : y ≡ x = cc in subst (λ z. 
 at-flat test f (y ∷ xs) (suc n) x p is = at-flat test f xs n x (later test (f y) _ p) is
 
 -- a function with a name in its definition has a body
-whole-complete : (function : TypedFunction) (name : At) → is_whole function ≡ true → function.defined ≡ Some name → is_some function.body ≡ true
+pub whole-complete : (function : TypedFunction) (name : At) → is_whole function ≡ true → function.defined ≡ Some name → is_some function.body ≡ true
 whole-complete function name p is = by (is_some function.body) refl
   where
     by : (b : Bool) → is_some function.body ≡ b → is_some function.body ≡ true
@@ -54,7 +54,7 @@ whole-complete function name p is = by (is_some function.body) refl
     by false at = never (rw (at, is) at p)
 
 -- and the other way
-whole-defined : (function : TypedFunction) → is_whole function ≡ true → is_some function.body ≡ true → (name : At) × (function.defined ≡ Some name)
+pub whole-defined : (function : TypedFunction) → is_whole function ≡ true → is_some function.body ≡ true → (name : At) × (function.defined ≡ Some name)
 whole-defined function p at = named function.defined (rw at at p)
   where
     named : (name : Option At) → is_some name ≡ true → (at : At) × (name ≡ Some at)
@@ -74,13 +74,13 @@ module _ (typed : Typed) (ir : Ir) (lawful : IsLawful typed) (is : IsTreeOf type
   pub functions-are : map function_of ir.functions ≡ functions_along (setting_for typed is.definitions) (defined_functions typed is.definitions) 0
   functions-are = ap (λ (w : IrWhole). w.functions) is.is.tree
 
-  complete-defined : (number : ℕ) (function : TypedFunction) → slice_get typed.functions number ≡ Some function → is_some function.body ≡ true → IsDefined typed.functions number
+  pub complete-defined : (number : ℕ) (function : TypedFunction) → slice_get typed.functions number ≡ Some function → is_some function.body ≡ true → IsDefined typed.functions number
   complete-defined number function at complete =
       let name : (name : At) × (function.defined ≡ Some name) = whole-defined function (at-all is_whole typed.functions number function lawful.functions_are_whole at) complete in
       (name.0, record { function = function; there = at; defined = name.1 })
 
   -- the function of a number in the tree
-  table-there : (number : ℕ) (function : TreeFunction) (functions : List IrFunction) → slice_get (map function_of functions) number ≡ Some function
+  pub table-there : (number : ℕ) (function : TreeFunction) (functions : List IrFunction) → slice_get (map function_of functions) number ≡ Some function
       → (g : IrFunction) × (slice_get functions number ≡ Some g) × (function_of g ≡ function)
   table-there number function functions at = by (slice_get functions number) refl (sym (slice_get-map function_of functions number) ∙ at)
     where
@@ -121,12 +121,12 @@ module _ (typed : Typed) (ir : Ir) (lawful : IsLawful typed) (is : IsTreeOf type
   -- ---- the definitions
 
   -- what the walk of a definition asks for
-  record RunsWell (function : TypedFunction) : Type 0 where
-    complete : is_some function.body ≡ true
-    each : Each (fine typed) (in_function typed function)
-    follows : follow_one_another (begun_in (in_function typed function)) ≡ true
+  pub record RunsWell (function : TypedFunction) : Type 0 where
+    pub complete : is_some function.body ≡ true
+    pub each : Each (fine typed) (in_function typed function)
+    pub follows : follow_one_another (begun_in (in_function typed function)) ≡ true
 
-  runs-well : Each (fine typed) (in_source typed) → (number : ℕ) → IsDefined typed.functions number → RunsWell (function_at typed.functions number)
+  pub runs-well : Each (fine typed) (in_source typed) → (number : ℕ) → IsDefined typed.functions number → RunsWell (function_at typed.functions number)
   runs-well each number defined =
       subst (λ (o : Option TypedFunction). RunsWell (unwrap_or o nameless)) (sym defined.1.there) (record {
         complete = whole-complete defined.1.function defined.0 (at-all is_whole typed.functions number defined.1.function lawful.functions_are_whole defined.1.there) defined.1.defined;
@@ -134,7 +134,7 @@ module _ (typed : Typed) (ir : Ir) (lawful : IsLawful typed) (is : IsTreeOf type
         follows = one-later defined.1.function.params _ (subst (λ (l : List ℕ). follow_one_another l ≡ true) (sym (lawful.objects_are_declared number defined.1.function defined.1.there)) (lawful.objects_follow number));
       })
 
-  body-stands : (gives : Option Width) (body : Option TypedBlock) (next : ℕ) → is_some body ≡ true → Each (fine typed) (in_body typed gives body) → follow_one_another (begun_in (in_body typed gives body)) ≡ true
+  pub body-stands : (gives : Option Width) (body : Option TypedBlock) (next : ℕ) → is_some body ≡ true → Each (fine typed) (in_body typed gives body) → follow_one_another (begun_in (in_body typed gives body)) ≡ true
       → stands (tables_of ir) (body_tree (setting_for typed is.definitions) body next).tree (Body (record { in_loop = false; gives = gives })) ≡ all_of typed (tables_of ir) numbers (in_body typed gives body)
   body-stands gives None next complete each follows = never complete
   body-stands gives (Some body) next complete each follows = (block-runs typed (tables_of ir) numbers (number_in is.definitions) agrees body next (record { in_loop = false; gives = gives })).0.runs each follows

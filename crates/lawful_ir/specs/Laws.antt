@@ -6,7 +6,7 @@ use Rattle.sat_base.specs.declared.limits.TheConstants.{TOKENS, CONSTANTS}
 use Rattle.c_typed.specs.declared.typed.Typed.{Typed}
 use Rattle.ir_arena.specs.declared.ir.Ir.{Ir}
 use Rattle.ir_arena.specs.Placed.{whole_of}
-use Rattle.ir_build.specs.Built.{IsTreeOf}
+use Rattle.lawful_ir.specs.Built.{IsTreeOf}
 use Rattle.ir_cuts.specs.Cuts.{cuts_of}
 use Rattle.lawful_sources.specs.Lawful.{IsLawful, token_of}
 use Rattle.lawful_sources.specs.Rows.{argument_fits, conversion_stands, is_in_loop, return_fits}

@@ -1,3 +1,4 @@
+pub mod Built
 pub mod Lawful
 pub mod Positions
 pub mod Walk

@@ -73,12 +73,12 @@ main-within [] p = cc
 main-within (f ∷ functions) p = main-first f functions (is_main f) refl p (main-within functions)
 
 -- the first function named main that has a body
-record Main (functions : List TypedFunction) : Type 0 where
-  number : ℕ
-  found : position is_main functions ≡ Some number
-  complete : is_complete (slice_get functions number) ≡ true
+pub record Main (functions : List TypedFunction) : Type 0 where
+  pub number : ℕ
+  pub found : position is_main functions ≡ Some number
+  pub complete : is_complete (slice_get functions number) ≡ true
 
-main-of : (functions : List TypedFunction) → list_any is_good_main functions ≡ true → Main functions
+pub main-of : (functions : List TypedFunction) → list_any is_good_main functions ≡ true → Main functions
 main-of functions p =
     let number : ℕ = position_or_len is_main functions in
     let found : position is_main functions ≡ Some number = ap (λ (b : Bool). if b then Some number else None) (lt-ltb number (length functions) (main-within functions p)) in

@@ -27,7 +27,7 @@ use Rattle.tied_names.specs.Ties.{tie_of}
 use Rattle.c_types.specs.Sources.{Source, function_number, functions_or, defining, number_of, after_declaration, after_body, after_item, after_items, opening}
 use Rattle.c_types.specs.Tied.{IsTied, notes_of}
 use Rattle.whole_trees.specs.Sources.{setting_for, body_tree, function_tree, function_at, functions_along}
-use Rattle.ir_build.specs.Built.{IsTreeOf}
+use Rattle.lawful_ir.specs.Built.{IsTreeOf}
 use Rattle.tree_costs.proofs.Loops.{IsSteady, blocks_are_steady}
 
 -- ---- a function is defined where it has a body

@@ -8,7 +8,7 @@ use Rattle.c_types.specs.Tied.{IsTied}
 use Rattle.ir_arena.specs.declared.ir.Ir.{Ir}
 use Rattle.ir_arena.specs.Costs.{cost_of_whole}
 use Rattle.ir_arena.specs.Placed.{whole_of}
-use Rattle.ir_build.specs.Built.{IsTreeOf}
+use Rattle.lawful_ir.specs.Built.{IsTreeOf}
 use Rattle.source_costs.specs.Costs.{cost_of_source}
 use Rattle.source_costs.specs.Laws.{token_words}
 

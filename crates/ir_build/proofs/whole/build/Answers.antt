@@ -1,8 +1,10 @@
 use Rattle.std.proofs.lemmas.Result.{IfOk-weaker}
 use Rattle.lawful_trees.proofs.Functions.{has-tree}
 use Rattle.lawful_trees.proofs.Short.{are-short}
-use Rattle.ir_build.specs.Built.{IsTreeOf, DoesAs}
+use Rattle.lawful_ir.specs.Built.{IsTreeOf, DoesAs}
+use Rattle.lawful_ir.specs.Lawful.{IsLawfulTree}
 use Rattle.ir_build.proofs.Fields.{HasFields, is_tree, with_fields}
+use Rattle.ir_build.proofs.Lawful.{trees-are-lawful}
 use Rattle.ir_build.proofs.Runs.{trees_do}
 use Rattle.ir_build.proofs.whole.build.Goals as goal
 
@@ -26,5 +28,6 @@ returns c =
     in
     record {
       tree = tree;
+      lawful = IfOk-weaker c.with_functions.result (IsTreeOf typed) IsLawfulTree (λ ir of. trees-are-lawful typed ir c.args.order.now.functions c.requires.lawful c.requires.order of) tree;
       runs = IfOk-weaker c.with_functions.result (IsTreeOf typed) (DoesAs typed) (λ ir of. trees_do typed ir of (has-tree typed c.args.order.now.functions c.requires.lawful c.requires.order)) tree;
     }

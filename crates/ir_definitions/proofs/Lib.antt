@@ -1,0 +1,4 @@
+pub mod Permuted
+pub mod Defined
+pub mod Read
+pub mod Lines

@@ -1,0 +1,4 @@
+pub mod Rising
+pub mod Ordered
+pub mod Constants
+pub mod Mains

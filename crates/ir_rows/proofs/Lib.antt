@@ -1,0 +1,4 @@
+pub mod Standing
+pub mod Objects
+pub mod Calls
+pub mod Sites
