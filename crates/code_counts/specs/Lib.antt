@@ -1,0 +1,3 @@
+pub mod Own
+pub mod Constructs
+pub mod Laws
