@@ -7,7 +7,9 @@ use Rattle.code_lines.specs.declared.word.Word.{Word}
 use Rattle.ir_arena.specs.Costs.{cost_of, mark_words}
 use Rattle.ir_arena.specs.Tree.{IrTree, Not, Binary}
 use Rattle.code_lines.specs.Pieces.{flush_code}
-use Rattle.code_jumps.specs.Jumps.{Reach, Unequal, jump_where}
+use Rattle.code_jumps.specs.declared.branch.Test.TheVariants.{Unequal}
+use Rattle.code_jumps.specs.declared.branch.Reach.{Reach}
+use Rattle.code_jumps.specs.Jumps.{jump_where}
 use Rattle.code_stacks.specs.Places.{Layout}
 use Rattle.code_stacks.specs.Operands.{operand_register, fetches}
 use Rattle.expression_code.specs.Code.{expression_code, weight_of}

@@ -10,11 +10,13 @@ use Rattle.code_lines.specs.declared.word.Word.{Word}
 use Rattle.ir_arena.specs.Costs.{conversion_words, cost_of, costs_of, mark_words}
 use Rattle.ir_arena.specs.Tree.{IrTree, IrTarget, IrTrees, Constant, Read, Operate, Convert, Not, Invert, Binary, Choose, ReadFlag, Variable, end, more}
 use Rattle.code_lines.specs.Pieces.{number_code, flush_code}
-use Rattle.code_jumps.specs.Jumps.{Unequal, is_near, jump_where, reach_of}
+use Rattle.code_jumps.specs.declared.branch.Test.TheVariants.{Unequal}
+use Rattle.code_jumps.specs.Jumps.{is_near, jump_where, reach_of}
 use Rattle.code_memory.specs.Memory.{load_code}
 use Rattle.code_stacks.specs.Places.{Layout, stack_register}
 use Rattle.code_stacks.specs.Operands.{operand_register, fetches, finish_code}
-use Rattle.expression_code.specs.Code.{Operand, around, binary_line, chosen_code, constant_code, convert_code, count_of, counted_code, expression_code, fits_sixteen, invert_line, marked_code, narrow_line, not_line, operands_code, other_widths, over_code, pass_code, read_code, site_code, truth_code, truth_line, weight_of, widths_of}
+use Rattle.operator_lowering.specs.Sites.{operand_count}
+use Rattle.expression_code.specs.Code.{Operand, around, binary_line, chosen_code, constant_code, convert_code, counted_code, expression_code, fits_sixteen, invert_line, marked_code, narrow_line, not_line, operands_code, other_widths, over_code, pass_code, read_code, site_code, truth_code, truth_line, weight_of, widths_of}
 use Rattle.code_costs.proofs.Pieces.{around_short, fetch_short, finish_short, flush_short, load_short, number_short, past_short, where_short}
 use Rattle.code_costs.proofs.Sites.{site_fits}
 
@@ -121,7 +123,7 @@ module _ (objects : List Object) (l : Layout) where
       → length (operands_code objects l (widths_of kind) operands depth) ≤ costs_of operands + length (widths_of kind) * conversion_words
       → length (code_of (Operate site kind operands weight) depth) ≤ cost_of (Operate site kind operands weight)
   site_after site kind operands weight depth few =
-      omega (arith, few, site_fits l depth (count_of kind) site kind, length-append (operands_code objects l (widths_of kind) operands depth) (site_code l depth (count_of kind) site kind))
+      omega (arith, few, site_fits l depth (operand_count kind) site kind, length-append (operands_code objects l (widths_of kind) operands depth) (site_code l depth (operand_count kind) site kind))
 
   -- ---- the whole
 

@@ -3,7 +3,10 @@ use Rattle.std.proofs.Common.{ℕ, zero, suc, ◌+◌, ◌≤◌, ℤ, pos, ◌+
 use Rattle.code_lines.specs.declared.word.Word.{Word}
 use Rattle.code_lines.specs.Own.{Add, Sltu}
 use Rattle.code_lines.specs.Pieces.{is_near, number_line, number_code, count_line, flush_code}
-use Rattle.code_jumps.specs.Jumps.{Reach, Short, Middle, Long, Test, branch_code, jump_code, jump_where, past_code, sensed}
+use Rattle.code_jumps.specs.declared.branch.Test.{Test}
+use Rattle.code_jumps.specs.declared.branch.Reach.{Reach}
+use Rattle.code_jumps.specs.declared.branch.Reach.TheVariants.{Short, Middle, Long}
+use Rattle.code_jumps.specs.Jumps.{branch_code, jump_code, jump_where, past_code, sensed}
 use Rattle.code_memory.specs.Memory.{access_code, access_line, load_code, store_code}
 use Rattle.code_stacks.specs.Places.{Layout, in_registers, kept_slot, scratch_register, stack_register}
 use Rattle.code_stacks.specs.Operands.{fetch_code, fetches, finish_code}

@@ -5,14 +5,15 @@ use Rattle.code_lines.specs.declared.word.Word.{Word}
 use Rattle.ir_arena.specs.Costs.{cost_of, costs_of}
 use Rattle.ir_arena.specs.Tree.{IrTree, IrTrees, Empty, Block, If, Loop, Leave, Return, end, more}
 use Rattle.code_lines.specs.Pieces.{flush_code}
-use Rattle.code_jumps.specs.Jumps.{past_code, reach_of}
+use Rattle.code_jumps.specs.Jumps.{past_code}
 use Rattle.code_memory.specs.Memory.{base_register, base}
 use Rattle.code_stacks.specs.Places.{Layout}
 use Rattle.expression_code.specs.Code.{expression_code, weight_of}
 use Rattle.simple_code.specs.Code.{simple_code}
 use Rattle.condition_code.specs.Code.{condition_code}
 use Rattle.statement_code.specs.Blocks.{openings_of, openings_code, weight_of_openings}
-use Rattle.statement_code.specs.Code.{Exits, Part, before, codes_along, entry_code, first_branch, guarded_code, last_code, left_code, nowhere, part_of, parts_of, simples_code, skip_code, test_code, turn_exits, turn_words, turns_code, weight_of_all, whole_code}
+use Rattle.statement_code.specs.declared.exits.Exits.{Exits}
+use Rattle.statement_code.specs.Code.{Part, before, codes_along, entry_code, first_branch, guarded_code, last_code, left_code, nowhere, part_of, parts_of, reach_over, simples_code, skip_code, test_code, turn_exits, turn_words, turns_code, weight_of_all, whole_code}
 use Rattle.program_code.specs.Code.{body_code, end_code, start_code}
 use Rattle.code_costs.specs.Laws.{ProgramsAreShort}
 use Rattle.code_costs.proofs.Conditions.{branch_words, condition_short}
@@ -47,7 +48,7 @@ module _ (objects : List Object) (l : Layout) (near : Bool) where
 
   guarded_short : (cond : IrTree) (lag : ℕ) (guarded : List Word) → length (guarded_code objects l near cond lag guarded) ≤ cost_of cond + branch_words + length guarded
   guarded_short cond lag guarded =
-      let reach = reach_of (length guarded) in
+      let reach = reach_over objects l near (length guarded) cond false lag in
       let over = pos (length guarded) in
       omega (arith, condition_short objects l reach 0 cond false lag over, length-append (condition_code objects l reach 0 cond false lag over) guarded)
 
@@ -80,7 +81,7 @@ module _ (objects : List Object) (l : Layout) (near : Bool) where
   test_short : (words : ℕ) (cond : IrTrees) → length (test_code objects l near words cond) ≤ costs_of cond + branch_words
   test_short words end = omega (arith, left_short 0 (pos 0 -ℤ pos (words + length (left_code objects l near 0 (pos 0)))))
   test_short words (more cond rest) =
-      let reach = reach_of words in
+      let reach = reach_over objects l near words cond true 0 in
       omega (arith, condition_short objects l reach 0 cond true 0 (pos 0 -ℤ pos (words + length (condition_code objects l reach 0 cond true 0 (pos 0)))))
 
   entry_short : (tests_first : Bool) (words : ℕ) → length (entry_code objects l near tests_first words) ≤ 7

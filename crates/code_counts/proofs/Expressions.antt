@@ -8,13 +8,15 @@ use Rattle.operator_meaning.specs.declared.object.Object.{Object}
 use Rattle.operator_meaning.specs.declared.site.Guard.TheVariants.{Kept}
 use Rattle.operator_meaning.specs.declared.site.SiteKind.{SiteKind}
 use Rattle.rv_encode.specs.declared.instruction.Instr.TheVariants as instr
+use Rattle.operator_lowering.specs.Sites.{operand_count}
 use Rattle.operator_lowering.specs.Words.{template_words}
 use Rattle.code_lines.specs.declared.word.Word.{Word}
 use Rattle.ir_arena.specs.Tree.{IrTree, IrTarget, IrTrees, Constant, Read, Operate, Convert, Not, Invert, Binary, Choose, ReadFlag, Variable, end, more}
-use Rattle.code_jumps.specs.Jumps.{Unequal, is_near, reach_of}
+use Rattle.code_jumps.specs.declared.branch.Test.TheVariants.{Unequal}
+use Rattle.code_jumps.specs.Jumps.{is_near, reach_of}
 use Rattle.code_stacks.specs.Places.{Layout, stack_register}
 use Rattle.code_stacks.specs.Operands.{operand_register}
-use Rattle.expression_code.specs.Code.{Operand, around, binary_line, chosen_code, constant_code, convert_code, count_of, expression_code, first_width, fits_sixteen, form_of, narrow_line, operands_code, other_widths, over_code, pass_code, read_code, site_code, site_registers, truth_code, weight_of, widths_of, marked_code}
+use Rattle.expression_code.specs.Code.{Operand, around, binary_line, chosen_code, constant_code, convert_code, expression_code, first_width, fits_sixteen, form_of, narrow_line, operands_code, other_widths, over_code, pass_code, read_code, site_code, site_registers, truth_code, weight_of, widths_of, marked_code}
 use Rattle.code_counts.specs.Constructs.{constructs_in, constructs_of, constructs_of_mark}
 use Rattle.code_counts.proofs.Counted.{Counted, before_still, behind_still, joined, none, one_compares, stack_kept, still, template_still, within}
 use Rattle.code_counts.proofs.Pieces.{around_counted, fetches_still, finish_still, flush_still, load_still, number_still, past_still, where_compares}
@@ -95,7 +97,7 @@ module _ (objects : List Object) (l : Layout) where
     expression_counted (Constant value) depth = constant_still l depth value
     expression_counted (Read target) depth = within (read_still target depth) refl (omega arith)
     expression_counted (Operate site kind operands weight) depth =
-        before_still (operands_counted (widths_of kind) operands depth) (site_still l depth (count_of kind) site kind)
+        before_still (operands_counted (widths_of kind) operands depth) (site_still l depth (operand_count kind) site kind)
     expression_counted (Convert cast width part) depth = before_still (expression_counted part depth) (convert_still width (fits_sixteen objects part) depth)
     expression_counted (Not part) depth =
         let line = one_compares (instr.Sltiu (stack_register depth) (operand_register depth 0) (pos 1)) (stack_kept depth) in

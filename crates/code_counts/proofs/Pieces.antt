@@ -4,7 +4,11 @@ use Rattle.rv_encode.specs.declared.instruction.Instr.TheVariants as instr
 use Rattle.rv_encode.specs.declared.register.TheConstants.{OVERFLOW}
 use Rattle.code_lines.specs.declared.word.Word.{Word}
 use Rattle.code_lines.specs.Pieces.{is_near, upper_of, lower_of, number_line, number_code, count_line, flush_code}
-use Rattle.code_jumps.specs.Jumps.{Reach, Short, Middle, Long, Test, Equal, Unequal, Less, NotLess, branch_by, branch_code, bytes_of, jump_code, jump_where, opposite, past_code, sensed}
+use Rattle.code_jumps.specs.declared.branch.Test.{Test}
+use Rattle.code_jumps.specs.declared.branch.Test.TheVariants.{Equal, Unequal, Less, NotLess}
+use Rattle.code_jumps.specs.declared.branch.Reach.{Reach}
+use Rattle.code_jumps.specs.declared.branch.Reach.TheVariants.{Short, Middle, Long}
+use Rattle.code_jumps.specs.Jumps.{branch_by, branch_code, bytes_of, jump_code, jump_where, opposite, past_code, sensed}
 use Rattle.rv_encode.specs.State.{data_start}
 use Rattle.code_lines.specs.Own.{Lw, Sw}
 use Rattle.code_memory.specs.Memory.{access_code, access_line, base_offset, base_register, load_code, store_code}

@@ -6,13 +6,13 @@ use Rattle.rv_encode.specs.declared.instruction.Instr.TheVariants as instr
 use Rattle.code_lines.specs.declared.word.Word.{Word}
 use Rattle.ir_arena.specs.Tree.{IrTree, IrTrees, Empty, Block, If, Loop, Leave, Return, end, more}
 use Rattle.code_lines.specs.Pieces.{flush_code}
-use Rattle.code_jumps.specs.Jumps.{reach_of}
 use Rattle.code_memory.specs.Memory.{base_register, base}
 use Rattle.code_stacks.specs.Places.{Layout}
 use Rattle.expression_code.specs.Code.{weight_of}
 use Rattle.condition_code.specs.Code.{condition_code}
 use Rattle.statement_code.specs.Blocks.{openings_of, weight_of_openings}
-use Rattle.statement_code.specs.Code.{Exits, Part, before, codes_along, entry_code, guarded_code, last_code, left_code, nowhere, part_of, parts_of, simples_code, skip_code, test_code, turn_exits, turn_words, weight_of_all, whole_code}
+use Rattle.statement_code.specs.declared.exits.Exits.{Exits}
+use Rattle.statement_code.specs.Code.{Part, before, codes_along, entry_code, guarded_code, last_code, left_code, nowhere, part_of, parts_of, reach_over, simples_code, skip_code, test_code, turn_exits, turn_words, weight_of_all, whole_code}
 use Rattle.program_code.specs.Code.{program_code}
 use Rattle.code_counts.specs.Constructs.{constructs_in, constructs_of, overflow_writes_in, overflow_writes_of, overflow_writes_of_simples}
 use Rattle.code_counts.specs.Laws.{ComparisonsAreFew, OverflowIsKept}
@@ -54,7 +54,7 @@ module _ (objects : List Object) (l : Layout) (near : Bool) where
   guarded_counted : (cond : IrTree) (lag : ℕ) {guarded : List Word} {writes most : ℕ} → Counted guarded writes most
       → Counted (guarded_code objects l near cond lag guarded) writes (4 * constructs_of cond + 1 + most)
   guarded_counted cond lag {guarded} counted =
-      within (joined (condition_counted objects l (reach_of (length guarded)) 0 cond false lag (pos (length guarded))) counted) (omega arith) (omega arith)
+      within (joined (condition_counted objects l (reach_over objects l near (length guarded) cond false lag) 0 cond false lag (pos (length guarded))) counted) (omega arith) (omega arith)
 
   one_branch : (cond this : IrTree) → Holds this → Holds (If cond this end)
   one_branch cond this holds lag exits = within (guarded_counted cond lag (whole_holds this holds exits)) refl (omega arith)
@@ -74,8 +74,8 @@ module _ (objects : List Object) (l : Layout) (near : Bool) where
   test_counted : (words : ℕ) (cond : IrTrees) → Counted (test_code objects l near words cond) 0 (4 * constructs_in cond + 1)
   test_counted words end = within (left_still 0 (pos 0 -ℤ pos (words + length (left_code objects l near 0 (pos 0))))) refl (omega arith)
   test_counted words (more cond rest) =
-      let back = pos 0 -ℤ pos (words + length (condition_code objects l (reach_of words) 0 cond true 0 (pos 0))) in
-      within (condition_counted objects l (reach_of words) 0 cond true 0 back) refl (omega arith)
+      let back = pos 0 -ℤ pos (words + length (condition_code objects l (reach_over objects l near words cond true 0) 0 cond true 0 (pos 0))) in
+      within (condition_counted objects l (reach_over objects l near words cond true 0) 0 cond true 0 back) refl (omega arith)
 
   entry_still : (tests_first : Bool) (words : ℕ) → Counted (entry_code objects l near tests_first words) 0 0
   entry_still true words = left_still 0 (pos words)

@@ -5,7 +5,8 @@ use Rattle.c_tree.specs.declared.expression.BinaryMark.TheVariants as binary
 use Rattle.operator_meaning.specs.declared.object.Object.{Object}
 use Rattle.code_lines.specs.declared.word.Word.{Word}
 use Rattle.ir_arena.specs.Tree.{IrTree, Not, Binary}
-use Rattle.code_jumps.specs.Jumps.{Reach, Unequal}
+use Rattle.code_jumps.specs.declared.branch.Test.TheVariants.{Unequal}
+use Rattle.code_jumps.specs.declared.branch.Reach.{Reach}
 use Rattle.code_stacks.specs.Places.{Layout}
 use Rattle.code_stacks.specs.Operands.{operand_register}
 use Rattle.expression_code.specs.Code.{weight_of}

@@ -9,12 +9,15 @@ use Rattle.operator_meaning.specs.declared.site.SiteKind.{SiteKind}
 use Rattle.code_lines.specs.declared.word.Word.{Word}
 use Rattle.code_lines.specs.Own.{Addi}
 use Rattle.ir_arena.specs.Tree.{IrTree, IrTarget, IrTrees, Constant, Read, Operate, Convert, Not, Invert, Binary, Choose, ReadFlag, Variable, end, more}
-use Rattle.code_jumps.specs.Jumps.{Unequal, is_near, reach_of}
+use Rattle.code_jumps.specs.declared.branch.Test.TheVariants.{Unequal}
+use Rattle.code_jumps.specs.Jumps.{is_near, reach_of}
 use Rattle.code_stacks.specs.Places.{Layout, stack_register}
 use Rattle.code_stacks.specs.Operands.{operand_register}
-use Rattle.expression_code.specs.Code.{Operand, binary_line, chosen_code, constant_code, convert_code, count_of, expression_code, first_width, fits_sixteen, invert_line, marked_code, narrow_line, not_line, operands_code, other_widths, over_code, pass_code, read_code, site_code, site_registers, truth_code, truth_line, weight_of, widths_of}
+use Rattle.operator_lowering.specs.Sites.{operand_count}
+use Rattle.expression_code.specs.Code.{Operand, binary_line, chosen_code, constant_code, convert_code, expression_code, first_width, fits_sixteen, invert_line, marked_code, narrow_line, not_line, operands_code, other_widths, over_code, pass_code, read_code, site_code, site_registers, truth_code, truth_line, weight_of, widths_of}
 use Rattle.code_entries.specs.Entries.{entries_of_operands, entries_of_value}
-use Rattle.code_entries.specs.Pieces.{Entry, IsMade}
+use Rattle.code_pieces.specs.declared.piece.Entry.{Entry}
+use Rattle.code_entries.specs.Pieces.{IsMade}
 use Rattle.code_entries.proofs.Made.{before_plain, joined, listed, none, plain, template_made}
 use Rattle.code_entries.proofs.Pieces.{around_made, fetches_plain, finish_plain, flush_plain, load_plain, number_plain, past_plain, where_plain}
 
@@ -69,7 +72,7 @@ module _ (objects : List Object) (l : Layout) where
     pub expression_made : (e : IrTree) (depth : ℕ) → IsMade (expression_code objects l e depth) (entries_of_value e)
     expression_made (Constant value) depth = constant_plain l depth value
     expression_made (Read target) depth = read_plain target depth
-    expression_made (Operate site kind operands weight) depth = joined (operands_made (widths_of kind) operands depth) (site_made l depth (count_of kind) site kind)
+    expression_made (Operate site kind operands weight) depth = joined (operands_made (widths_of kind) operands depth) (site_made l depth (operand_count kind) site kind)
     expression_made (Convert cast width part) depth = before_plain (expression_made part depth) (convert_plain width (fits_sixteen objects part) depth)
     expression_made (Not part) depth = before_plain (expression_made part depth) (around_made l depth 1 (plain (not_line depth) refl))
     expression_made (Invert part) depth = before_plain (expression_made part depth) (around_made l depth 1 (plain (invert_line depth) refl))

@@ -5,7 +5,10 @@ use Rattle.std.specs.List.{list_all}
 use Rattle.template_runs.specs.declared.registers.Registers.{Registers}
 use Rattle.code_lines.specs.declared.word.Word.{Word}
 use Rattle.code_lines.specs.declared.word.Word.TheVariants.{Own, First, Further}
-use Rattle.code_entries.specs.Pieces.{Entry, IsMade, Single, Template, entries_of, words_of}
+use Rattle.code_pieces.specs.declared.piece.Entry.{Entry}
+use Rattle.code_pieces.specs.declared.piece.Piece.TheVariants.{Single, Template}
+use Rattle.code_pieces.specs.Pieces.{entries_of, words_of}
+use Rattle.code_entries.specs.Pieces.{IsMade}
 
 -- ---- parts
 

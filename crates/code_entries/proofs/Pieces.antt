@@ -3,12 +3,17 @@ use Rattle.std.proofs.Common.{ℕ, zero, suc, ◌+◌, ℤ, pos, ◌+ℤ◌, ◌
 use Rattle.code_lines.specs.declared.word.Word.{Word}
 use Rattle.code_lines.specs.Own.{Add, Lw, Sltu, Sw}
 use Rattle.code_lines.specs.Pieces.{is_near, number_line, number_code, count_line, flush_code}
-use Rattle.code_jumps.specs.Jumps.{Reach, Short, Middle, Long, Test, Equal, branch_by, branch_code, bytes_of, jump_code, jump_where, opposite, past_code, sensed}
+use Rattle.code_jumps.specs.declared.branch.Test.{Test}
+use Rattle.code_jumps.specs.declared.branch.Test.TheVariants.{Equal}
+use Rattle.code_jumps.specs.declared.branch.Reach.{Reach}
+use Rattle.code_jumps.specs.declared.branch.Reach.TheVariants.{Short, Middle, Long}
+use Rattle.code_jumps.specs.Jumps.{branch_by, branch_code, bytes_of, jump_code, jump_where, opposite, past_code, sensed}
 use Rattle.code_memory.specs.Memory.{access_line, load_code, store_code}
 use Rattle.code_stacks.specs.Places.{Layout, in_registers, kept_slot, scratch_register, stack_register}
 use Rattle.code_stacks.specs.Operands.{fetch_code, fetches, finish_code}
 use Rattle.expression_code.specs.Code.{around}
-use Rattle.code_entries.specs.Pieces.{Entry, IsMade}
+use Rattle.code_pieces.specs.declared.piece.Entry.{Entry}
+use Rattle.code_entries.specs.Pieces.{IsMade}
 use Rattle.code_entries.proofs.Made.{before_plain, either, joined, none, plain}
 
 -- ---- numbers, the count, and words of the memory

@@ -9,7 +9,8 @@ use Rattle.operator_meaning.specs.declared.site.SiteKind.TheVariants as kind
 use Rattle.typed_meaning.specs.Expressions.{site_at}
 use Rattle.ir_arena.specs.Tree.{IrTree, IrTrees, Constant, Read, Operate, Convert, Not, Invert, Binary, Choose, ReadFlag, Write, Step, WriteFlag, Out, AddCount, Start, Empty, Block, If, Loop, Leave, Return, Variable, end, more}
 use Rattle.code_stacks.specs.Places.{Layout}
-use Rattle.expression_code.specs.Code.{count_of, weight_of}
+use Rattle.operator_lowering.specs.Sites.{operand_count}
+use Rattle.expression_code.specs.Code.{weight_of}
 use Rattle.expression_code.specs.Straight.{are_straight, count_in, is_light, is_marked, is_numbered, is_site, is_straight}
 use Rattle.expression_code.proofs.Leaves.{both_true}
 use Rattle.simple_code.specs.Code.{computed, is_simple, is_target, written_by}
@@ -18,7 +19,7 @@ use Rattle.statement_code.specs.Blocks.{AreOpenings, Opening, object_of, opening
 use Rattle.statement_code.specs.Laws.{AreSimple, AreStatements, AreTests, IsReturned, IsStatement}
 use Rattle.code_entries.specs.Entries.{entries_of_first, entries_of_openings, entries_of_operands, entries_of_simple, entries_of_simples, entries_of_statement, entries_of_statements, entries_of_value}
 use Rattle.code_entries.specs.Laws.{SitesAreMade}
-use Rattle.code_entries.specs.Pieces.{Entry}
+use Rattle.code_pieces.specs.declared.piece.Entry.{Entry}
 use Rattle.code_entries.specs.Sites.{are_begun, has_rows, have_rows, is_optional, sites_in, sites_of}
 use Rattle.code_entries.proofs.Made.{listed}
 use Rattle.code_entries.proofs.Statements.{codes_are_made}
@@ -35,7 +36,7 @@ module _ (l : Layout) where
     value_sites (Read (Variable n)) straight = refl
     value_sites (Read target) straight = absurd (let f = straight in cc)
     value_sites (Operate site kind operands weight) straight =
-        let parts = both_true (is_site kind && (count_in operands == count_of kind) && is_numbered l site kind) (are_straight l operands) straight in
+        let parts = both_true (is_site kind && (count_in operands == operand_count kind) && is_numbered l site kind) (are_straight l operands) straight in
         same_joined (operand_sites operands parts.1) refl
     value_sites (Convert cast width part) straight = value_sites part straight
     value_sites (Not part) straight = value_sites part straight

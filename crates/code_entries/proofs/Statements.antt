@@ -4,17 +4,18 @@ use Rattle.operator_meaning.specs.declared.object.Object.{Object}
 use Rattle.code_lines.specs.declared.word.Word.{Word}
 use Rattle.ir_arena.specs.Tree.{IrTree, IrTrees, Empty, Block, If, Loop, Leave, Return, end, more}
 use Rattle.code_lines.specs.Pieces.{flush_code}
-use Rattle.code_jumps.specs.Jumps.{reach_of}
 use Rattle.code_memory.specs.Memory.{base_register, base}
 use Rattle.code_stacks.specs.Places.{Layout}
 use Rattle.expression_code.specs.Code.{weight_of}
 use Rattle.condition_code.specs.Code.{condition_code}
 use Rattle.statement_code.specs.Blocks.{openings_of, weight_of_openings}
-use Rattle.statement_code.specs.Code.{Exits, Part, before, codes_along, entry_code, guarded_code, last_code, left_code, nowhere, part_of, parts_of, simples_code, skip_code, test_code, turn_exits, turn_words, weight_of_all, whole_code}
+use Rattle.statement_code.specs.declared.exits.Exits.{Exits}
+use Rattle.statement_code.specs.Code.{Part, before, codes_along, entry_code, guarded_code, last_code, left_code, nowhere, part_of, parts_of, reach_over, simples_code, skip_code, test_code, turn_exits, turn_words, weight_of_all, whole_code}
 use Rattle.program_code.specs.Code.{end_code}
 use Rattle.code_entries.specs.Entries.{entries_of_first, entries_of_simples, entries_of_statement, entries_of_statements, entries_of_value}
 use Rattle.code_entries.specs.Laws.{CodesAreMade}
-use Rattle.code_entries.specs.Pieces.{Entry, IsMade}
+use Rattle.code_pieces.specs.declared.piece.Entry.{Entry}
+use Rattle.code_entries.specs.Pieces.{IsMade}
 use Rattle.code_entries.proofs.Conditions.{condition_made}
 use Rattle.code_entries.proofs.Expressions.{expression_made}
 use Rattle.code_entries.proofs.Made.{before_plain, joined, listed, none, plain}
@@ -47,7 +48,7 @@ module _ (objects : List Object) (l : Layout) (near : Bool) where
 
   guarded_made : (cond : IrTree) (lag : ℕ) {guarded : List Word} {entries : List Entry} → IsMade guarded entries
       → IsMade (guarded_code objects l near cond lag guarded) (entries_of_value cond ++ entries)
-  guarded_made cond lag {guarded} made = joined (condition_made objects l (reach_of (length guarded)) 0 cond false lag (pos (length guarded))) made
+  guarded_made cond lag {guarded} made = joined (condition_made objects l (reach_over objects l near (length guarded) cond false lag) 0 cond false lag (pos (length guarded))) made
 
   two_branches : (cond this other : IrTree) (rest : IrTrees) → Holds this → Holds other → Holds (If cond this (more other rest))
   two_branches cond this other rest holds as_well lag exits =
@@ -61,7 +62,7 @@ module _ (objects : List Object) (l : Layout) (near : Bool) where
   test_made : (words : ℕ) (cond : IrTrees) → IsMade (test_code objects l near words cond) (entries_of_first cond)
   test_made words end = left_plain 0 (pos 0 -ℤ pos (words + length (left_code objects l near 0 (pos 0))))
   test_made words (more cond rest) =
-      condition_made objects l (reach_of words) 0 cond true 0 (pos 0 -ℤ pos (words + length (condition_code objects l (reach_of words) 0 cond true 0 (pos 0))))
+      condition_made objects l (reach_over objects l near words cond true 0) 0 cond true 0 (pos 0 -ℤ pos (words + length (condition_code objects l (reach_over objects l near words cond true 0) 0 cond true 0 (pos 0))))
 
   entry_plain : (tests_first : Bool) (words : ℕ) → IsMade (entry_code objects l near tests_first words) []
   entry_plain true words = left_plain 0 (pos words)

@@ -8,7 +8,7 @@ use Rattle.typed_meaning.specs.Expressions.{site_at}
 use Rattle.typed_meaning.specs.Statements.{step_mark}
 use Rattle.ir_arena.specs.Tree.{IrTree, IrTrees, Operate, Convert, Not, Invert, Binary, Choose, Write, Step, WriteFlag, Out, Block, If, Loop, Return, Variable, end, more}
 use Rattle.statement_code.specs.Blocks.{Opening, openings_of}
-use Rattle.code_entries.specs.Pieces.{Entry}
+use Rattle.code_pieces.specs.declared.piece.Entry.{Entry}
 
 -- ---- expressions
 

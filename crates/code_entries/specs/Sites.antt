@@ -5,7 +5,7 @@ use Rattle.typed_meaning.specs.Statements.{step_mark}
 use Rattle.ir_arena.specs.Tree.{IrTree, IrTarget, IrTrees, Read, Address, Operate, Convert, Not, Invert, Binary, Choose, Call, Write, Step, WriteFlag, Out, Start, Block, If, Loop, Return, Variable, Element, ThroughView, end, more}
 use Rattle.statement_code.specs.Blocks.{object_of}
 use Rattle.code_entries.specs.Entries.{entries_of_mark}
-use Rattle.code_entries.specs.Pieces.{Entry}
+use Rattle.code_pieces.specs.declared.piece.Entry.{Entry}
 
 abbrev mutual
   pub sites_of : IrTree → List Entry

@@ -11,7 +11,11 @@ use Rattle.rv_encode.specs.Runs.{pc_of}
 use Rattle.template_runs.specs.Machine.{IsBefore}
 use Rattle.code_lines.proofs.Lines.{next_is, next_place, later_one, stands_first, stands_rest}
 use Rattle.code_lines.proofs.Leading.{leads_both, leads_least}
-use Rattle.code_jumps.specs.Jumps.{bytes_of, jump_code, Test, Equal, Unequal, Less, NotLess, passes, opposite, sensed, met, branch_code, branch_by, Reach, Short, Middle, Long, IsThere, ComesTo, ComesBy, BranchesAreDone}
+use Rattle.code_jumps.specs.declared.branch.Test.{Test}
+use Rattle.code_jumps.specs.declared.branch.Test.TheVariants.{Equal, Unequal, Less, NotLess}
+use Rattle.code_jumps.specs.declared.branch.Reach.{Reach}
+use Rattle.code_jumps.specs.declared.branch.Reach.TheVariants.{Short, Middle, Long}
+use Rattle.code_jumps.specs.Jumps.{bytes_of, jump_code, passes, opposite, sensed, met, branch_code, branch_by, IsThere, ComesTo, ComesBy, BranchesAreDone}
 use Rattle.code_jumps.proofs.Jumps.{target_is, to_word, there, jumps_are_done}
 
 turned : (b : Bool) (x y : Moment) → (if b then x else y) ≡ (if not b then y else x)

@@ -2,6 +2,10 @@
 use Rattle.std.specs.Prelude.{◌≡◌, ◌≢◌, ℕ, ◌+◌, ◌≤◌, ℤ, pos, ◌+ℤ◌, ◌-ℤ◌, ◌*ℤ◌, Bool, true, false, not, if◌then◌else◌, nat_lt, int_lt, List, [], ◌∷◌, length}
 use Rattle.std.specs.Ordering.{int_eq}
 use Rattle.code_lines.specs.declared.word.Word.{Word}
+use Rattle.code_jumps.specs.declared.branch.Test.{Test}
+use Rattle.code_jumps.specs.declared.branch.Test.TheVariants.{Equal, Unequal, Less, NotLess}
+use Rattle.code_jumps.specs.declared.branch.Reach.{Reach}
+use Rattle.code_jumps.specs.declared.branch.Reach.TheVariants.{Short, Middle, Long}
 use Rattle.code_lines.specs.Words.{StandHere, Code}
 use Rattle.code_lines.specs.Own.{Auipc, Jal, Jalr, Beq, Bne, Blt, Bge}
 use Rattle.rv_encode.specs.State.{MachineState, Running, register}
@@ -20,12 +24,6 @@ jump_code false distance = Auipc 5 (upper_of (bytes_of distance)) ∷ Jalr 0 5 (
 
 -- ---- tests of two registers
 
-pub data Test : Type 0 where
-  Equal : Test
-  Unequal : Test
-  Less : Test
-  NotLess : Test
-
 abbrev pub passes : Test → ℤ → ℤ → Bool
 passes Equal a b = int_eq a b
 passes Unequal a b = not (int_eq a b)
@@ -43,12 +41,6 @@ branch_by Equal rs1 rs2 imm = Beq rs1 rs2 imm
 branch_by Unequal rs1 rs2 imm = Bne rs1 rs2 imm
 branch_by Less rs1 rs2 imm = Blt rs1 rs2 imm
 branch_by NotLess rs1 rs2 imm = Bge rs1 rs2 imm
-
--- how far a branch goes: by itself, over a near jump, or over a far one
-pub data Reach : Type 0 where
-  Short : Reach
-  Middle : Reach
-  Long : Reach
 
 abbrev over_jump : (near : Bool) → Test → (rs1 rs2 : ℕ) → (distance : ℤ) → List Word
 over_jump near test rs1 rs2 distance =

@@ -15,7 +15,9 @@ use Rattle.tree_meaning.specs.Trees.{value_meaning}
 use Rattle.code_lines.specs.declared.word.Word.{Word}
 use Rattle.code_lines.specs.Words.{StandHere, Code}
 use Rattle.rv_encode.specs.State.{MachineState, Moment, Running, register}
-use Rattle.code_jumps.specs.Jumps.{Unequal, passes, Reach, met, jump_where}
+use Rattle.code_jumps.specs.declared.branch.Test.TheVariants.{Unequal}
+use Rattle.code_jumps.specs.declared.branch.Reach.{Reach}
+use Rattle.code_jumps.specs.Jumps.{passes, met, jump_where}
 use Rattle.code_lines.specs.Pieces.{flush_code, IsNoCount}
 use Rattle.code_runs.specs.Doing.{Bond, Comes, Does, DoesIn, side, Passes}
 use Rattle.code_lines.specs.Leading.{LeadsLater}

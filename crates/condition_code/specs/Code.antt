@@ -5,19 +5,18 @@ use Rattle.c_tree.specs.declared.expression.BinaryMark.TheVariants as binary
 use Rattle.operator_meaning.specs.declared.object.Object.{Object}
 use Rattle.code_lines.specs.declared.word.Word.{Word}
 use Rattle.ir_arena.specs.Tree.{IrTree, Not, Binary}
+use Rattle.condition_code.specs.declared.comparison.Comparison.{Comparison}
 use Rattle.code_lines.specs.Pieces.{flush_code}
-use Rattle.code_jumps.specs.Jumps.{Test, Equal, Unequal, Less, NotLess, Reach, jump_where}
+use Rattle.code_jumps.specs.declared.branch.Test.TheVariants.{Equal, Unequal, Less, NotLess}
+use Rattle.code_jumps.specs.declared.branch.Reach.{Reach}
+use Rattle.code_jumps.specs.Jumps.{jump_where}
 use Rattle.code_stacks.specs.Places.{Layout}
 use Rattle.code_stacks.specs.Operands.{operand_register, fetches}
 use Rattle.expression_code.specs.Code.{expression_code, weight_of}
 
 -- ---- relations
 
--- how two registers are compared for a relation, and whether they change places
-pub record Comparison : Type 0 where
-  pub test : Test
-  pub turned : Bool
-
+-- how two registers are compared for a relation
 abbrev pub comparison_of : BinaryMark → Comparison
 comparison_of binary.Eq = record { test = Equal; turned = false }
 comparison_of binary.Ne = record { test = Unequal; turned = false }

@@ -7,7 +7,8 @@ use Rattle.typed_meaning.specs.Expressions.{Setting, Called}
 use Rattle.ir_arena.specs.Tree.{IrTree, Not, Binary}
 use Rattle.tree_meaning.specs.Trees.{value_meaning}
 use Rattle.code_lines.specs.Words.{StandHere, Code}
-use Rattle.code_jumps.specs.Jumps.{Reach, met}
+use Rattle.code_jumps.specs.declared.branch.Reach.{Reach}
+use Rattle.code_jumps.specs.Jumps.{met}
 use Rattle.code_runs.specs.Doing.{Bond, DoesIn, side}
 use Rattle.code_stacks.specs.Places.{Layout, IsLaidOut}
 use Rattle.code_stacks.specs.Agreement.{With}

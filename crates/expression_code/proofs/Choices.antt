@@ -16,7 +16,8 @@ use Rattle.code_lines.proofs.Leading.{leads_nowhere, leads_at_all, leads_least}
 use Rattle.ir_arena.specs.Tree.{IrTree, Binary, Choose}
 use Rattle.tree_meaning.specs.Trees.{value_meaning}
 use Rattle.code_lines.specs.Pieces.{flush_code, IsNoCount}
-use Rattle.code_jumps.specs.Jumps.{Unequal, is_near, reach_of}
+use Rattle.code_jumps.specs.declared.branch.Test.TheVariants.{Unequal}
+use Rattle.code_jumps.specs.Jumps.{is_near, reach_of}
 use Rattle.code_runs.specs.Doing.{Bond, Comes, Does, side}
 use Rattle.code_runs.proofs.Parts.{in_turn, later, moves_on}
 use Rattle.code_stacks.specs.Places.{Layout, IsLaidOut}

@@ -12,7 +12,9 @@ use Rattle.code_lines.specs.Leading.{Leads, LeadsLater}
 use Rattle.code_lines.proofs.Leading.{leads_then, leads_both}
 use Rattle.code_lines.specs.Words.{StandHere, Code}
 use Rattle.template_runs.specs.Machine.{IsBefore}
-use Rattle.code_jumps.specs.Jumps.{Test, passes, Reach, sensed, met, branch_code, jump_where, past_code, ComesBy, IsThere}
+use Rattle.code_jumps.specs.declared.branch.Test.{Test}
+use Rattle.code_jumps.specs.declared.branch.Reach.{Reach}
+use Rattle.code_jumps.specs.Jumps.{passes, sensed, met, branch_code, jump_where, past_code, ComesBy, IsThere}
 use Rattle.code_jumps.proofs.Branches.{branches_are_done, sensed_passes, same_length}
 use Rattle.code_jumps.proofs.Jumps.{passes_words}
 use Rattle.code_lines.specs.Pieces.{flush_code, count_in, HasHalves, IsNoCount}

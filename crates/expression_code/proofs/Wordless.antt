@@ -9,12 +9,13 @@ use Rattle.operator_meaning.specs.declared.site.Guard.TheVariants.{Kept}
 use Rattle.rv_encode.specs.declared.instruction.Instr.{Instr}
 use Rattle.template_runs.specs.declared.registers.Registers.{Registers}
 use Rattle.template_runs.specs.Renaming.{all_over}
+use Rattle.operator_lowering.specs.Sites.{operand_count}
 use Rattle.operator_lowering.specs.Words.{site_words, front, places, way_of, template_words, is_in_place, copy}
 use Rattle.code_lines.specs.Words.{Code}
 use Rattle.code_lines.proofs.Entering.{has_none}
 use Rattle.code_stacks.specs.Places.{Layout, IsLaidOut, stack_register}
 use Rattle.code_stacks.specs.Operands.{operand_register}
-use Rattle.expression_code.specs.Code.{form_of, site_registers, count_of}
+use Rattle.expression_code.specs.Code.{form_of, site_registers}
 use Rattle.expression_code.specs.Straight.{is_site, is_wordless, is_numbered}
 use Rattle.expression_code.proofs.Sites.{IsTold}
 
@@ -101,12 +102,12 @@ others k depth count site is some =
     let instrs = site_words k (form_of k) Kept (is_in_place (places way regs)) site in
     behind_none (front way regs) (all_over (places way regs) instrs) (over_none (places way regs) instrs ∙ words_none k (is_in_place (places way regs)) site is ∙ some)
 
-pub template_none : (k : SiteKind) (depth site : ℕ) → is_site k ≡ true → has_none (template_words k (form_of k) Kept site (site_registers depth (count_of k))) ≡ is_wordless k
+pub template_none : (k : SiteKind) (depth site : ℕ) → is_site k ≡ true → has_none (template_words k (form_of k) Kept site (site_registers depth (operand_count k))) ≡ is_wordless k
 template_none (kind.Call op.LDepositL) depth site is = deposit_none depth site
 template_none k depth site is = by_test (is_wordless k) refl
   where
-    by_test : (b : Bool) → is_wordless k ≡ b → has_none (template_words k (form_of k) Kept site (site_registers depth (count_of k))) ≡ is_wordless k
-    by_test false some = others k depth (count_of k) site is some ∙ sym some
+    by_test : (b : Bool) → is_wordless k ≡ b → has_none (template_words k (form_of k) Kept site (site_registers depth (operand_count k))) ≡ is_wordless k
+    by_test false some = others k depth (operand_count k) site is some ∙ sym some
     by_test true none = absurd (let e = none in cc)
 
 -- what is held for a site without words is one
@@ -119,7 +120,7 @@ wordless_is l site k is = by_tests (l.is_wordless site) (is_wordless k) is
     by_tests false false is = refl
     by_tests false true is = let e = is in cc
 
-pub told : (code : Code) (l : Layout) → IsLaidOut code l → (k : SiteKind) (site depth : ℕ) → is_site k ≡ true → is_numbered l site k ≡ true → IsTold code k (form_of k) site depth (count_of k)
+pub told : (code : Code) (l : Layout) → IsLaidOut code l → (k : SiteKind) (site depth : ℕ) → is_site k ≡ true → is_numbered l site k ≡ true → IsTold code k (form_of k) site depth (operand_count k)
 told code l laid k site depth is numbered =
     let parts = both_true (nat_lt site 4294967296) (if l.is_wordless site then is_wordless k else not (is_wordless k)) numbered in
     record { small = site_small site parts.0; wordless = laid.wordless site ∙ wordless_is l site k parts.1 ∙ sym (template_none k depth site is) }

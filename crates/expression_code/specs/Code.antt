@@ -10,16 +10,18 @@ use Rattle.operator_meaning.specs.declared.site.Form.TheVariants.{Plain, Flag}
 use Rattle.operator_meaning.specs.declared.site.Guard.TheVariants.{Kept}
 use Rattle.operator_meaning.specs.declared.site.SiteKind.{SiteKind}
 use Rattle.operator_meaning.specs.declared.site.SiteKind.TheVariants as kind
-use Rattle.operator_meaning.specs.Table.{row_of, arity_of}
+use Rattle.operator_meaning.specs.Table.{row_of}
 use Rattle.source_runs.specs.Shapes.{shape_of}
 use Rattle.code_lines.specs.declared.word.Word.{Word}
 use Rattle.code_lines.specs.Words.{template_of}
 use Rattle.code_lines.specs.Own.{Addi, Sltiu, Xori, Slli, Srai, Slt, Sltu, Xor, Or, And, Sub}
 use Rattle.template_runs.specs.declared.registers.Registers.{Registers}
+use Rattle.operator_lowering.specs.Sites.{operand_count}
 use Rattle.operator_lowering.specs.Words.{template_words}
 use Rattle.ir_arena.specs.Tree.{IrTree, IrTarget, IrTrees, Constant, Read, Operate, Convert, Not, Invert, Binary, Choose, ReadFlag, Variable, end, more}
 use Rattle.code_lines.specs.Pieces.{number_code, flush_code}
-use Rattle.code_jumps.specs.Jumps.{Unequal, jump_where, past_code, reach_of, is_near}
+use Rattle.code_jumps.specs.declared.branch.Test.TheVariants.{Unequal}
+use Rattle.code_jumps.specs.Jumps.{jump_where, past_code, reach_of, is_near}
 use Rattle.code_memory.specs.Memory.{load_code}
 use Rattle.code_stacks.specs.Places.{Layout, stack_register}
 use Rattle.code_stacks.specs.Operands.{operand_register, fetches, finish_code}
@@ -67,11 +69,6 @@ site_registers depth count = record { result = stack_register depth; first = ope
 abbrev pub widths_of : SiteKind → List Width
 widths_of (kind.Call op) = (row_of op).takes
 widths_of other = []
-
-abbrev pub count_of : SiteKind → ℕ
-count_of (kind.Call op) = arity_of op
-count_of kind.Opposite = 1
-count_of other = 2
 
 abbrev pub first_width : List Width → Width
 first_width [] = W32
@@ -198,7 +195,7 @@ module _ (objects : List Object) (l : Layout) where
     pub expression_code : IrTree → (depth : ℕ) → List Word
     expression_code (Constant value) depth = constant_code l value depth
     expression_code (Read target) depth = read_code target depth
-    expression_code (Operate site kind operands weight) depth = operands_code (widths_of kind) operands depth ++ site_code l depth (count_of kind) site kind
+    expression_code (Operate site kind operands weight) depth = operands_code (widths_of kind) operands depth ++ site_code l depth (operand_count kind) site kind
     expression_code (Convert cast width part) depth = expression_code part depth ++ convert_code width (fits_sixteen objects part) depth
     expression_code (Not part) depth = expression_code part depth ++ around l depth 1 (not_line depth)
     expression_code (Invert part) depth = expression_code part depth ++ around l depth 1 (invert_line depth)

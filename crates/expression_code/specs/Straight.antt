@@ -7,7 +7,8 @@ use Rattle.operator_meaning.specs.declared.site.SiteKind.TheVariants as kind
 use Rattle.operator_meaning.specs.declared.operator.Op.TheVariants as op
 use Rattle.ir_arena.specs.Tree.{IrTree, IrTarget, IrTrees, Constant, Read, Operate, Convert, Not, Invert, Binary, Choose, ReadFlag, Variable, end, more}
 use Rattle.code_stacks.specs.Places.{Layout}
-use Rattle.expression_code.specs.Code.{count_of, weight_of}
+use Rattle.operator_lowering.specs.Sites.{operand_count}
+use Rattle.expression_code.specs.Code.{weight_of}
 
 abbrev pub is_number : ℤ → Bool
 is_number value = int_le (negsuc 2147483647) value && int_le value (pos 2147483647)
@@ -64,7 +65,7 @@ abbrev mutual
   pub is_straight : Layout → IrTree → Bool
   is_straight l (Constant value) = is_number value
   is_straight l (Read target) = is_variable_of l target
-  is_straight l (Operate site kind operands weight) = is_site kind && (count_in operands == count_of kind) && is_numbered l site kind && are_straight l operands
+  is_straight l (Operate site kind operands weight) = is_site kind && (count_in operands == operand_count kind) && is_numbered l site kind && are_straight l operands
   is_straight l (Convert cast width part) = is_straight l part
   is_straight l (Not part) = is_straight l part
   is_straight l (Invert part) = is_straight l part

@@ -10,7 +10,6 @@ use Rattle.code_lines.specs.Words.{StandHere, Code}
 use Rattle.rv_encode.specs.State.{MachineState, Running}
 use Rattle.ir_arena.specs.Tree.{IrTree}
 use Rattle.tree_meaning.specs.Trees.{value_meaning}
-use Rattle.code_jumps.specs.Jumps.{reach_of}
 use Rattle.code_runs.specs.Doing.{Bond, Does, Moves, one_of_two, side}
 use Rattle.code_runs.proofs.Parts.{later, moves_on, nothing, one_of}
 use Rattle.code_lines.proofs.Leading.{leads_at_all, leads_nowhere}
@@ -21,7 +20,7 @@ use Rattle.condition_code.specs.Code.{condition_code}
 use Rattle.condition_code.specs.Laws.{Decided, one_if_met, weight_of_condition}
 use Rattle.condition_code.proofs.Conditions.{condition_does}
 use Rattle.statement_code.specs.Laws.{AreReached, IsTest, Targets}
-use Rattle.statement_code.specs.Code.{before, Part, choice, first_branch, guarded_code, skip_code, whole_code}
+use Rattle.statement_code.specs.Code.{before, Part, choice, first_branch, guarded_code, reach_over, skip_code, whole_code}
 use Rattle.statement_code.proofs.Parts.{At, Flows, IsDone, flows_on, leaves, left_steady, reached_before, stay, whole_done, whole_steady}
 use Rattle.code_runs.proofs.Steps.{passes_still}
 
@@ -40,7 +39,7 @@ module _ (code : Code) (turns : ℕ) (l : Layout) (laid : IsLaidOut code l) (her
   Good = IsDone code turns l laid here near has_result
 
   abbrev guard : IrTree → (lag : ℕ) → (guarded : List Word) → List Word
-  guard cond lag guarded = condition_code here.objects l (reach_of (length guarded)) 0 cond false lag (pos (length guarded))
+  guard cond lag guarded = condition_code here.objects l (reach_over here.objects l near (length guarded) cond false lag) 0 cond false lag (pos (length guarded))
 
   -- a condition that leads over what it guards
   guarded_done : (cond : IrTree) (k lag : ℕ) (guarded : List Word) → IsTest l cond → lag + weight_of_condition cond < 2 ^ 31 → StandHere code k (guarded_code here.objects l near cond lag guarded)
@@ -50,7 +49,7 @@ module _ (code : Code) (turns : ℕ) (l : Layout) (laid : IsLaidOut code l) (her
       let own = k + length c in
       let end = k + length (c ++ guarded) in
       let within = stands.within in
-      let does = condition_does code turns l laid here called scalars (reach_of (length guarded)) cond false k lag [] (pos (length guarded)) end test.0 (omega (arith, test.1)) small (first_stands code k c guarded stands)
+      let does = condition_does code turns l laid here called scalars (reach_over here.objects l near (length guarded) cond false lag) cond false k lag [] (pos (length guarded)) end test.0 (omega (arith, test.1)) small (first_stands code k c guarded stands)
       (omega (arith, ints, length-append c guarded)) within in
       moves_on code turns (Stands k lag) (value_meaning here called cond) (Decided here.objects l end own [] false) (one_of_two (Stands own 0) (Stands end 0))
       (λ s m has. later code 0 turns turns s.sites s.sites (Running m) m (one_if_met false) (λ a. 0) (Decided here.objects l end own [] false) (value_meaning here called cond s) (omega arith) (λ a. omega arith) (passes_still code s.sites (Running m)) (does s m has))
@@ -58,7 +57,7 @@ module _ (code : Code) (turns : ℕ) (l : Layout) (laid : IsLaidOut code l) (her
 
   guarded_steady : (cond : IrTree) (lag : ℕ) (one other : List Word) → length one ≡ length other → length (guarded_code here.objects l near cond lag one) ≡ length (guarded_code here.objects l near cond lag other)
   guarded_steady cond lag one other same =
-      let conditions = ap (λ n. length (condition_code here.objects l (reach_of n) 0 cond false lag (pos n))) same in
+      let conditions = ap (λ n. length (condition_code here.objects l (reach_over here.objects l near n cond false lag) 0 cond false lag (pos n))) same in
       omega (arith, same, conditions, length-append (guard cond lag one) one, length-append (guard cond lag other) other)
 
   pub one_branch : (cond : IrTree) (this : Part) (run : Run Flow) (weight : ℕ) → IsTest l cond → Good this run weight

@@ -24,7 +24,8 @@ use Rattle.code_stacks.specs.Agreement.{IsWith, With}
 use Rattle.code_stacks.proofs.Operands.{first_stands, second_stands}
 use Rattle.expression_code.proofs.Deciding.{flush_moves as weight_moves, leaves as jump_leaves}
 use Rattle.statement_code.specs.Laws.{AreReached, Led, Targets, result_of}
-use Rattle.statement_code.specs.Code.{Exits, before, Part, codes_along, lags_along, whole_code, left_code}
+use Rattle.statement_code.specs.declared.exits.Exits.{Exits}
+use Rattle.statement_code.specs.Code.{before, Part, codes_along, lags_along, whole_code, left_code}
 use Rattle.code_runs.proofs.Steps.{passes_still}
 
 -- a jump has the same length at each distance

@@ -18,7 +18,10 @@ use Rattle.ir_arena.specs.Tree.{IrTree, IrTrees, Not, Binary, end, more}
 use Rattle.tree_meaning.specs.Parts.{NodeMeaning, loop_meaning}
 use Rattle.tree_meaning.specs.Trees.{node_meaning, node_meanings}
 use Rattle.code_lines.specs.Pieces.{flush_code}
-use Rattle.code_jumps.specs.Jumps.{Reach, Test, Unequal, branch_code, jump_where, reach_of, sensed}
+use Rattle.code_jumps.specs.declared.branch.Test.{Test}
+use Rattle.code_jumps.specs.declared.branch.Test.TheVariants.{Unequal}
+use Rattle.code_jumps.specs.declared.branch.Reach.{Reach}
+use Rattle.code_jumps.specs.Jumps.{branch_code, jump_where, sensed}
 use Rattle.code_jumps.proofs.Branches.{same_length}
 use Rattle.code_runs.specs.Doing.{Bond, Does, DoesIn, one_of_two, one_where_it_holds}
 use Rattle.code_runs.proofs.Parts.{later, moved, moves_on, nothing, one_of, turns_are}
@@ -32,7 +35,8 @@ use Rattle.simple_code.proofs.Simples.{simple_does}
 use Rattle.condition_code.specs.Code.{comparison_of, condition_code, placed_by, value_code, relation_code}
 use Rattle.condition_code.proofs.Conditions.{condition_does}
 use Rattle.statement_code.specs.Laws.{AreReached, AreSimple, AreTests, Targets, weight_of_tests}
-use Rattle.statement_code.specs.Code.{Exits, Part, entry_code, last_code, left_code, loop, nowhere, simples_code, skip_code, test_code, turn_exits, turn_words, turns_code, weight_of_all, whole_code}
+use Rattle.statement_code.specs.declared.exits.Exits.{Exits}
+use Rattle.statement_code.specs.Code.{Part, entry_code, last_code, left_code, loop, nowhere, reach_over, simples_code, skip_code, test_code, turn_exits, turn_words, turns_code, weight_of_all, whole_code}
 use Rattle.statement_code.proofs.Parts.{At, Flows, IsDone, flush_moves, leaves, left_steady, no_change, one_change, stay, then_does, whole_done, whole_steady}
 use Rattle.statement_code.proofs.Choosing.{skips}
 use Rattle.code_runs.proofs.Steps.{passes_still, passes_none}
@@ -147,7 +151,7 @@ module _ (code : Code) (l : Layout) (laid : IsLaidOut code l) (here : Setting) (
       let to = leaves code here.turns l laid here near has_result k 0 [] [] d begin s m (omega arith) stands (omega (arith, ints, back, left_steady here.objects l near 0 d (pos 0))) (omega (arith, within, back)) at in
       (to.0, passes_none code 1 s.sites (Running m) (Running to.0) to.1, to.2)
   test_does (more cond rest) words begin k are small back stands s m at =
-      let reach = reach_of words in
+      let reach = reach_over here.objects l near words cond true 0 in
       let d = pos 0 -ℤ pos (words + length (condition_code here.objects l reach 0 cond true 0 (pos 0))) in
       let within = stands.within in
       condition_does code here.turns l laid here called scalars reach cond true k 0 [] d begin are.0 (omega (arith, are.1)) (omega (arith, small)) stands

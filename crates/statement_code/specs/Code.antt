@@ -4,20 +4,17 @@ use Rattle.operator_meaning.specs.declared.object.Object.{Object}
 use Rattle.code_lines.specs.declared.word.Word.{Word}
 use Rattle.ir_arena.specs.Tree.{IrTree, IrTrees, Empty, Block, If, Loop, Leave, Return, end, more}
 use Rattle.code_lines.specs.Pieces.{flush_code}
+use Rattle.code_jumps.specs.declared.branch.Reach.{Reach}
+use Rattle.code_jumps.specs.declared.branch.Reach.TheVariants.{Long}
 use Rattle.code_jumps.specs.Jumps.{past_code, reach_of}
 use Rattle.code_stacks.specs.Places.{Layout}
 use Rattle.expression_code.specs.Code.{expression_code, weight_of}
 use Rattle.simple_code.specs.Code.{simple_code, weight_of_simple}
 use Rattle.condition_code.specs.Code.{condition_code}
+use Rattle.statement_code.specs.declared.exits.Exits.{Exits}
 use Rattle.statement_code.specs.Blocks.{Opening, openings_of, openings_code, weight_of_openings}
 
 -- ---- where statements lead
-
--- how far `continue`, `break` and `return` lead from the end of a part
-pub record Exits : Type 0 where
-  pub again : ℤ
-  pub left : ℤ
-  pub returned : ℤ
 
 -- the same from a place so many words before
 abbrev pub before : ℕ → Exits → Exits
@@ -82,8 +79,12 @@ module _ (objects : List Object) (l : Layout) (near : Bool) where
 
   -- ---- choices
 
+  -- how far the branches of a condition reach, where it leads over so many words of others and may lead over its own
+  abbrev pub reach_over : (words : ℕ) → IrTree → (sense : Bool) → (lag : ℕ) → Reach
+  reach_over words cond sense lag = reach_of (words + length (condition_code objects l Long 0 cond sense lag (pos 0)))
+
   abbrev pub guarded_code : IrTree → (lag : ℕ) → (guarded : List Word) → List Word
-  guarded_code cond lag guarded = condition_code objects l (reach_of (length guarded)) 0 cond false lag (pos (length guarded)) ++ guarded
+  guarded_code cond lag guarded = condition_code objects l (reach_over (length guarded) cond false lag) 0 cond false lag (pos (length guarded)) ++ guarded
 
   -- the first branch, and the jump over the second
   abbrev pub first_branch : Part → (other : List Word) → Exits → List Word
@@ -105,7 +106,7 @@ module _ (objects : List Object) (l : Layout) (near : Bool) where
   abbrev pub test_code : (words : ℕ) → IrTrees → List Word
   test_code words end = left_code 0 (pos 0 -ℤ pos (words + length (left_code 0 (pos 0))))
   test_code words (more cond rest) =
-      condition_code objects l (reach_of words) 0 cond true 0 (pos 0 -ℤ pos (words + length (condition_code objects l (reach_of words) 0 cond true 0 (pos 0))))
+      condition_code objects l (reach_over words cond true 0) 0 cond true 0 (pos 0 -ℤ pos (words + length (condition_code objects l (reach_over words cond true 0) 0 cond true 0 (pos 0))))
 
   -- a loop that tests before its first turn is entered at its test
   abbrev pub entry_code : (tests_first : Bool) → (words : ℕ) → List Word

@@ -15,7 +15,8 @@ use Rattle.expression_code.specs.Straight.{is_straight, height_of}
 use Rattle.simple_code.specs.Code.{is_simple, weight_of_simple, height_of_simple}
 use Rattle.condition_code.specs.Laws.{height_of_condition, is_condition, weight_of_condition}
 use Rattle.statement_code.specs.Blocks.{AreOpenings, openings_of, weight_of_openings}
-use Rattle.statement_code.specs.Code.{Exits, part_of, statement_code, weight_of_all}
+use Rattle.statement_code.specs.declared.exits.Exits.{Exits}
+use Rattle.statement_code.specs.Code.{part_of, statement_code, weight_of_all}
 
 -- ---- where statements lead
 
