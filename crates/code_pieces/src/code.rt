@@ -6,7 +6,7 @@ ghost use Rattle.operator_lowering.specs.Words.{template_words};
 ghost use Rattle.operator_meaning.specs.declared.site.Guard.TheVariants.{Kept};
 ghost use Rattle.code_lines.specs.Words.{template_of};
 ghost use Rattle.expression_code.specs.Code.{form_of};
-ghost use Rattle.code_pieces.specs.Pieces.{all_words, Appends, AreSiteRegisters, Extends, most_words, words_of, IsLowered};
+ghost use Rattle.code_pieces.specs.Pieces.{all_entries, all_words, Appends, AreSiteRegisters, Extends, most_words, words_of, IsLowered};
 
 use crate::piece::{Entry, Piece};
 use rv_encode::Instr;
@@ -71,7 +71,7 @@ impl Code {
     }
 
     // Appends a piece of so many words.
-    fn push(&mut self, piece: Piece, words: u32) -> Result<(), Memory>
+    pub(crate) fn push(&mut self, piece: Piece, words: u32) -> Result<(), Memory>
         requires count { words ≡ length (words_of piece) }
         requires lowered { IsLowered piece }
         ensures { OnOk result (self.new ≡ self.old ++ piece ∷ []) }
@@ -81,6 +81,18 @@ impl Code {
         }
         self.pieces.push(piece)?;
         self.words += words;
+        Ok(())
+    }
+
+    /// Appends other code.
+    pub fn append(&mut self, other: &Code) -> Result<(), Memory>
+        ensures { OnOk result (Appends self.old self.new (all_words other.now) (all_entries other.now)) }
+    {
+        if other.words > MOST_WORDS - self.words {
+            return Err(Memory);
+        }
+        self.pieces.extend_from_slice(other.pieces.as_slice())?;
+        self.words += other.words;
         Ok(())
     }
 }
