@@ -9,7 +9,8 @@ use Rattle.code_lines.specs.declared.word.Word.{Word}
 use Rattle.code_lines.specs.declared.word.Word.TheVariants.{Own, Further}
 use Rattle.code_lines.specs.Words.{template_of}
 use Rattle.code_stacks.specs.Places.{stack_register, scratch_register}
-use Rattle.code_counts.specs.Own.{compares, copy_to_overflow, is_overflow, writes_overflow, written_by}
+use Rattle.template_fields.specs.Writes.{is_overflow_write}
+use Rattle.code_counts.specs.Own.{compares, copy_to_overflow, writes_overflow}
 
 -- so many words write Overflow, each as an assignment does, and at most so many compare
 pub record Counted (words : List Word) (writes most : ℕ) : Type 0 where
@@ -45,7 +46,7 @@ either false one other = other
 -- ---- single words
 
 abbrev is_unwritten : Instr → Type 0
-is_unwritten instr = is_overflow (written_by instr) ≡ false
+is_unwritten instr = is_overflow_write instr ≡ false
 
 pub still : (instr : Instr) → is_unwritten instr → is_comparing instr ≡ false → Counted (Own instr ∷ []) 0 0
 still instr unwritten uncompared = record { written = rw unwritten refl; few = rw uncompared (lit≤ tt) }
