@@ -1,11 +1,11 @@
 -- Code that grows, step by step.
-use Rattle.std.proofs.Common.{◌≡◌, List, [], ◌++◌, sym, ap, subst, ◌∙◌, append_assoc}
+use Rattle.std.proofs.Common.{◌≡◌, List, [], ◌++◌, refl, sym, ap, subst, ◌∙◌, append_assoc}
 use Rattle.std.specs.Prelude.{Result, Ok, Err, OnOk}
 use Rattle.std.proofs.lemmas.List.{append-nil}
 use Rattle.code_lines.specs.declared.word.Word.{Word}
 use Rattle.code_pieces.specs.declared.piece.Entry.{Entry}
 use Rattle.code_pieces.specs.declared.piece.Piece.{Piece}
-use Rattle.code_pieces.specs.Pieces.{Appends, Extends, all_entries, all_words}
+use Rattle.code_pieces.specs.Pieces.{Appends, Consists, Extends, all_entries, all_words}
 
 adds_then : {A : Type 0} (old mid new xs ys : List A) → mid ≡ old ++ xs → new ≡ mid ++ ys → new ≡ old ++ (xs ++ ys)
 adds_then old mid new xs ys first second = second ∙ ap (λ zs. zs ++ ys) first ∙ append_assoc old xs ys
@@ -63,3 +63,28 @@ on_own_appends (Ok t) old mid new xs ys es first second = record {
 on_own_appends (Err e) old mid new xs ys es first second = tt
 
 pub ruleset growing = (on_extends_then, on_without_sites, on_appends_then, on_appends_own, on_own_appends)
+
+-- ---- the same words, said otherwise
+
+pub stays : (pieces : List Piece) → Extends pieces pieces []
+stays pieces = record { as_words = sym (append-nil (all_words pieces)); as_entries = refl }
+
+pub on_extends_same : {E : Type 0} (r : Result Unit E) (old new : List Piece) (xs all : List Word) → OnOk r (Extends old new xs) → all ≡ xs → OnOk r (Extends old new all)
+on_extends_same r old new xs all extends is = subst (λ words. OnOk r (Extends old new words)) (sym is) extends
+
+pub on_appends_same : {E : Type 0} (r : Result Unit E) (old new : List Piece) (xs all : List Word) (es : List Entry) → OnOk r (Appends old new xs es) → all ≡ xs → OnOk r (Appends old new all es)
+on_appends_same r old new xs all es appends is = subst (λ words. OnOk r (Appends old new words es)) (sym is) appends
+
+pub stays_without_sites : (pieces : List Piece) → Appends pieces pieces [] []
+stays_without_sites pieces = without_sites (stays pieces)
+
+-- ---- code from nothing
+
+pub consists : (pieces : List Piece) (words : List Word) (entries : List Entry) → Appends [] pieces words entries → Consists pieces words entries
+consists pieces words entries is = record { as_words = is.as_words; as_entries = is.as_entries }
+
+pub consists_own : (pieces : List Piece) (words : List Word) → Extends [] pieces words → Consists pieces words []
+consists_own pieces words is = record { as_words = is.as_words; as_entries = is.as_entries }
+
+pub consists_then : (old new : List Piece) (xs ys : List Word) (es : List Entry) → Consists old xs es → Extends old new ys → Consists new (xs ++ ys) es
+consists_then old new xs ys es is more = record { as_words = more.as_words ∙ ap (λ zs. zs ++ ys) is.as_words; as_entries = more.as_entries ∙ is.as_entries }

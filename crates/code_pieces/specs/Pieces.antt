@@ -41,6 +41,11 @@ pub record Extends (old new : List Piece) (words : List Word) : Type 0 where
   pub as_words : all_words new ≡ all_words old ++ words
   pub as_entries : all_entries new ≡ all_entries old
 
+-- the pieces have these words, and these entries of sites
+pub record Consists (pieces : List Piece) (words : List Word) (entries : List Entry) : Type 0 where
+  pub as_words : all_words pieces ≡ words
+  pub as_entries : all_entries pieces ≡ entries
+
 -- ---- what holds of the pieces of a code
 
 -- a place that a site does not have names the register of the result

@@ -3,7 +3,7 @@
 #![tactic(auto, using(crate::proofs::Growing::extends_then, crate::proofs::Growing::on_extends_then))]
 
 pub mod code;
-mod jumps;
+pub mod jumps;
 mod memory;
 pub mod numbers;
 pub mod piece;

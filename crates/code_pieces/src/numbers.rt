@@ -33,12 +33,13 @@ pub fn lower_of(number: i32) -> i32
     ((bits + 2048) % 4096) as i32 - 2048
 }
 
-/// A weight of 31 bits as a number. No source weighs more.
-fn signed(weight: u32) -> Result<i32, Memory>
-    ensures { IfOk result (λ number. number ≡ pos weight) }
+/// A number of 31 bits as a signed one. Memory is answered of a greater one; no weight of a source is so great, and no code
+/// is so long.
+pub fn signed(number: u32) -> Result<i32, Memory>
+    ensures { IfOk result (λ signed. signed ≡ pos number) }
 {
-    match i32::try_from(weight) {
-        Ok(number) => Ok(number),
+    match i32::try_from(number) {
+        Ok(signed) => Ok(signed),
         Err(_) => Err(Memory),
     }
 }

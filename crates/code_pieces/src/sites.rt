@@ -5,12 +5,13 @@ ghost use Rattle.rv_encode.specs.Words.{encoded};
 ghost use Rattle.operator_meaning.specs.declared.site.Guard.TheVariants.{Kept};
 ghost use Rattle.operator_lowering.specs.Registers.{AreRegistersOf, places_of};
 ghost use Rattle.operator_lowering.specs.Sites.{operand_count};
+ghost use Rattle.operator_lowering.specs.Template.{ArePlaces};
 ghost use Rattle.operator_lowering.specs.Words.{template_words};
 ghost use Rattle.code_stacks.specs.Places.{in_registers, scratch_register, stack_register};
 ghost use Rattle.code_stacks.specs.Operands.{operand_register};
 ghost use Rattle.expression_code.specs.Code.{form_of, site_registers};
 ghost use Rattle.code_pieces.specs.declared.piece.Piece.TheVariants.{Template};
-ghost use Rattle.code_pieces.specs.Pieces.{Appends, AreSiteRegisters, words_of};
+ghost use Rattle.code_pieces.specs.Pieces.{Appends, AreSiteRegisters, AreUsed, words_of};
 
 use crate::code::Code;
 use crate::piece::{Entry, Piece};
@@ -89,7 +90,9 @@ pub fn operand_register(depth: u32, operand: u32) -> u8
 
 /// The registers of a site with so many operands on top of a stack of this depth.
 pub fn site_registers(depth: u32, count: u32) -> Registers
-    ensures { result ≡ site_registers depth count }
+    ensures registers { result ≡ site_registers depth count }
+    ensures places { ArePlaces result }
+    ensures used { AreUsed count result }
 {
     let result = stack_register(depth);
     Registers {
