@@ -1,0 +1,9 @@
+pub mod Standing
+pub mod Plain
+pub mod Sites
+pub mod Expressions
+pub mod Conditions
+pub mod Simples
+pub mod Starts
+pub mod Statements
+pub mod Wholes
