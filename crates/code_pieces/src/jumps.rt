@@ -32,7 +32,7 @@ fn opposite(test: Test) -> Test
 }
 
 /// A test, or its opposite.
-fn sensed(sense: bool, test: Test) -> Test
+pub fn sensed(sense: bool, test: Test) -> Test
     ensures { result ≡ sensed sense test }
 {
     if sense { test } else { opposite(test) }

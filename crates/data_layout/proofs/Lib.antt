@@ -1,0 +1,4 @@
+pub mod Rooms
+pub mod Words
+pub mod Objects
+pub mod Held

@@ -1,0 +1,4 @@
+pub mod Layouts
+pub mod Slots
+pub mod Homes
+pub mod Laid
