@@ -14,7 +14,7 @@ use Rattle.typed_meaning.specs.Statements.{step_mark}
 use Rattle.code_lines.specs.declared.word.Word.{Word}
 use Rattle.code_lines.specs.Own.{Addi, Ecall}
 use Rattle.ir_arena.specs.Costs.{cost_of, cost_of_target, costs_of, object_words}
-use Rattle.ir_arena.specs.Tree.{IrTree, IrTarget, IrTrees, Constant, Read, Write, Step, WriteFlag, Out, Start, Variable, end, more}
+use Rattle.ir_arena.specs.Tree.{IrTree, IrTarget, IrTrees, Constant, Read, Operate, Write, Step, WriteFlag, Out, Start, Variable, end, more}
 use Rattle.code_memory.specs.Memory.{store_code}
 use Rattle.code_stacks.specs.Places.{Layout}
 use Rattle.expression_code.specs.Code.{convert_code, expression_code, fits_sixteen, operands_code, site_code}
@@ -70,6 +70,7 @@ module _ (objects : List Object) (l : Layout) where
       omega (arith, assigned_short target (stepped_by target up site) (cost_of_target target + cost_of (Constant (pos 1)) + 80) (computed_short target (step_mark up) site (Constant (pos 1))))
   simple_short (WriteFlag value) = omega (arith, expression_short objects l value 0, length-append (value_code value) (Addi 27 value_register (pos 0) ∷ []))
   simple_short (Out value) = omega (arith, expression_short objects l value 0, length-append (value_code value) (out_line ++ Ecall ∷ []))
+  simple_short (Operate site kind operands weight) = expression_short objects l (Operate site kind operands weight) 0
   simple_short part = omega arith
 
   -- ---- objects that start

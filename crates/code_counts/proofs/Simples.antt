@@ -10,7 +10,7 @@ use Rattle.rv_encode.specs.declared.instruction.Instr.TheVariants as instr
 use Rattle.source_runs.specs.Shapes.{shape_of}
 use Rattle.typed_meaning.specs.Expressions.{site_at}
 use Rattle.typed_meaning.specs.Statements.{step_mark}
-use Rattle.ir_arena.specs.Tree.{IrTree, IrTarget, IrTrees, Constant, Write, Step, WriteFlag, Out, Start, Variable, end, more}
+use Rattle.ir_arena.specs.Tree.{IrTree, IrTarget, IrTrees, Constant, Operate, Write, Step, WriteFlag, Out, Start, Variable, end, more}
 use Rattle.code_stacks.specs.Places.{Layout}
 use Rattle.expression_code.specs.Code.{fits_sixteen}
 use Rattle.simple_code.specs.Code.{assigned_code, computed, simple_code, stepped_by, value_register, written_by}
@@ -49,6 +49,7 @@ module _ (objects : List Object) (l : Layout) where
   simple_counted (Out value) =
       let call = behind_still (still (instr.Addi 10 value_register (pos 0)) refl refl) (behind_still (still (instr.Addi 17 0 (pos 3)) refl refl) (still instr.Ecall refl refl)) in
       before_still (expression_counted objects l value 0) call
+  simple_counted (Operate site kind operands weight) = expression_counted objects l (Operate site kind operands weight) 0
   simple_counted part = within none refl (omega arith)
 
   -- ---- objects that start

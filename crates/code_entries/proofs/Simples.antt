@@ -10,7 +10,7 @@ use Rattle.source_runs.specs.Shapes.{shape_of}
 use Rattle.typed_meaning.specs.Expressions.{site_at}
 use Rattle.typed_meaning.specs.Statements.{step_mark}
 use Rattle.code_lines.specs.Own.{Addi, Ecall}
-use Rattle.ir_arena.specs.Tree.{IrTree, Constant, Write, Step, WriteFlag, Out, Variable}
+use Rattle.ir_arena.specs.Tree.{IrTree, Constant, Operate, Write, Step, WriteFlag, Out, Variable}
 use Rattle.code_stacks.specs.Places.{Layout}
 use Rattle.expression_code.specs.Code.{fits_sixteen}
 use Rattle.simple_code.specs.Code.{assigned_code, computed, out_line, simple_code, stepped_by, value_register, written_by}
@@ -43,6 +43,7 @@ module _ (objects : List Object) (l : Layout) where
   simple_made (Step target up width site) = none
   simple_made (WriteFlag value) = before_plain (expression_made objects l value 0) (plain (Addi 27 value_register (pos 0) ∷ []) refl)
   simple_made (Out value) = before_plain (expression_made objects l value 0) (plain (out_line ++ Ecall ∷ []) refl)
+  simple_made (Operate site kind operands weight) = expression_made objects l (Operate site kind operands weight) 0
   simple_made part = none
 
   -- ---- objects that start

@@ -100,6 +100,7 @@ module _ (l : Layout) where
   simple_sites (WriteFlag value) simple = value_sites value simple
   simple_sites (Out value) simple = value_sites value simple
   simple_sites (AddCount weight) simple = refl
+  simple_sites (Operate site kind operands weight) simple = value_sites (Operate site kind operands weight) simple
   simple_sites part simple = absurd (let f = simple in cc)
 
   simples_sites : (parts : IrTrees) → AreSimple l parts → sites_in parts ≡ entries_of_simples parts

@@ -40,6 +40,7 @@ entries_of_simple (Write (Variable object) mark width site value) = entries_of_v
 entries_of_simple (Step (Variable object) up width site) = entries_of_mark (step_mark up) site
 entries_of_simple (WriteFlag value) = entries_of_value value
 entries_of_simple (Out value) = entries_of_value value
+entries_of_simple (Operate site kind operands weight) = entries_of_value (Operate site kind operands weight)
 entries_of_simple tree = []
 
 abbrev pub entries_of_simples : IrTrees → List Entry

@@ -7,6 +7,7 @@ use Rattle.sat_base.specs.declared.limits.TheConstants.{TOKENS}
 use Rattle.sat_base.specs.declared.width.Width.{Width}
 use Rattle.operator_meaning.specs.declared.object.Object.{Object}
 use Rattle.operator_meaning.specs.declared.object.Site.{Site}
+use Rattle.operator_meaning.specs.declared.site.SiteKind.{SiteKind}
 use Rattle.c_tree.specs.declared.expression.BinaryMark.{BinaryMark}
 use Rattle.c_tree.specs.declared.expression.BinaryMark.TheVariants as binary
 use Rattle.c_typed.specs.declared.call.Callee.TheVariants.{Test}
@@ -17,8 +18,8 @@ use Rattle.lawful_sources.specs.Expressions.{binary_kind}
 use Rattle.lawful_sources.specs.Objects.{is_scalar}
 use Rattle.lawful_sources.specs.Rows.{if_object}
 use Rattle.lawful_sources.specs.Things.{Taken}
-use Rattle.lawful_ir.specs.Positions.{TreeThing, Valued, called, plainly}
-use Rattle.lawful_ir.specs.Walk.{count_in, each_stands, stands}
+use Rattle.lawful_ir.specs.Positions.{TreeThing, Position, Valued, called, plainly}
+use Rattle.lawful_ir.specs.Walk.{computed, count_in, each_stands, numbers_stand, operand_position, stands}
 use Rattle.lawful_ir.proofs.Alike.{left, right, never}
 use Rattle.lawful_ir.proofs.Reached.{there}
 use Rattle.code_stacks.specs.Places.{Layout}
@@ -81,15 +82,29 @@ module _ (tables : Typed) (l : Layout) (for : IsFor tables l) where
       let things = within tables passed due None _ here.1 in
       (here.0, early tables (plain_stands one) _ things, late tables _ (plain_stands other) (late tables (plain_stands one) _ things))
 
+  -- what is known of a site where it is placed
+  abbrev pub SiteStands : Position → ℕ → SiteKind → IrTrees → ℕ → Type 0
+  SiteStands position site kind operands weight =
+      Stand tables (computed tables position site kind weight (numbers_stand tables operands) (each_stands tables operands (operand_position tables kind) 0))
+
+  abbrev OperandsStand : IrTrees → Type 0
+  OperandsStand operands =
+      (passed : ℕ → Option (Option Taken)) (due : ℕ → Option Width) → Stand tables (each_stands tables operands (λ at. Valued (passed at) (due at)) 0) → ArePlain operands → AreStraight operands
+
+  site_straight : (position : Position) (site : ℕ) (kind : SiteKind) (operands : IrTrees) (weight : ℕ) → SiteStands position site kind operands weight → IsPlain (Operate site kind operands weight)
+      → OperandsStand operands → IsStraight (Operate site kind operands weight)
+  site_straight position site kind operands weight stand plain each =
+      let is = site_is tables l for.few for.wordless position site weight kind operands (left (is_site kind) (are_scalar_trees operands) plain.formed) stand in
+      let parts : ArePlain operands = record { formed = right (is_site kind) (are_scalar_trees operands) plain.formed; small = plain.small; cheap = omega (arith, plain.cheap) } in
+      let are = each is.passed is.due is.stand parts in
+      record { is = is.is are.are; light = omega (arith, is.light, are.light) }
+
   mutual
     pub straight : (e : IrTree) (passed : Option (Option Taken)) (due : Option Width) → Stand tables (stands tables e (Valued passed due)) → IsPlain e → IsStraight e
     straight (Constant value) passed due stand plain = record { is = plain.small; light = omega arith }
     straight (Read (Variable n)) passed due stand plain = record { is = variable_is n (within tables passed due None _ stand).0.reaches; light = omega arith }
     straight (Operate site kind operands weight) passed due stand plain =
-        let is = site_is tables l for.few for.wordless passed due site weight kind operands (left (is_site kind) (are_scalar_trees operands) plain.formed) stand in
-        let parts : ArePlain operands = record { formed = right (is_site kind) (are_scalar_trees operands) plain.formed; small = plain.small; cheap = omega (arith, plain.cheap) } in
-        let are = each_straight operands is.passed is.due 0 is.stand parts in
-        record { is = is.is are.are; light = omega (arith, is.light, are.light) }
+        site_straight (Valued passed due) site kind operands weight stand plain (λ passed_on due_on. each_straight operands passed_on due_on 0)
     straight (Convert cast width part) passed due stand plain =
         let is = straight part None None (within tables passed due _ (plain_stands part) stand) (only_part (tree part) _ plain (omega arith)) in record { is = is.is; light = omega (arith, is.light) }
     straight (Not part) passed due stand plain =
@@ -137,3 +152,8 @@ module _ (tables : Typed) (l : Layout) (for : IsFor tables l) where
         let one = straight first (passed place) (due place) (early tables things _ stand) (first_part (tree first) (row rest) _ plain (omega arith)) in
         let others = each_straight rest passed due (place + 1) (late tables things _ stand) (second_part (tree first) (row rest) _ plain (omega arith)) in
         record { are = and_from (is_straight l first) (are_straight l rest) one.is others.are; light = omega (arith, one.light, others.light) }
+
+  -- a site, where its value is taken and where it is dropped
+  pub site_anywhere : (position : Position) (site : ℕ) (kind : SiteKind) (operands : IrTrees) (weight : ℕ) → SiteStands position site kind operands weight → IsPlain (Operate site kind operands weight)
+      → IsStraight (Operate site kind operands weight)
+  site_anywhere position site kind operands weight stand plain = site_straight position site kind operands weight stand plain (λ passed due. each_straight operands passed due 0)

@@ -30,8 +30,7 @@ use Rattle.code_stacks.specs.Places.{Layout}
 use Rattle.expression_code.specs.Code.{weight_of}
 use Rattle.expression_code.specs.Straight.{is_numbered, is_straight}
 use Rattle.simple_code.specs.Code.{computed, is_simple, weight_of_simple}
-use Rattle.lawful_programs.specs.Form.{uses_values}
-use Rattle.lawful_programs.proofs.Expressions.{IsFor, straight, variable_is}
+use Rattle.lawful_programs.proofs.Expressions.{IsFor, site_anywhere, straight, variable_is}
 use Rattle.lawful_programs.proofs.Plain.{IsPlain, only_part, tree}
 use Rattle.lawful_programs.proofs.Sites.{numbered}
 use Rattle.lawful_programs.proofs.Standing.{Stand, early, late, placed}
@@ -78,29 +77,29 @@ module _ (tables : Typed) (l : Layout) (for : IsFor tables l) where
     pub is : is_simple l e ≡ true
     pub light : weight_of_simple e ≤ cost_of e
 
-  pub simple : (e : IrTree) → Stand tables (stands tables e Acting) → IsPlain e → uses_values e ≡ true → IsActed e
-  simple (Write (Variable n) mark width site value) stand plain uses =
+  pub simple : (e : IrTree) → Stand tables (stands tables e Acting) → IsPlain e → IsActed e
+  simple (Write (Variable n) mark width site value) stand plain =
       let here = written_there n width (marked_if_any tables site (assign_kind mark) ++ stands tables value (Valued None (due_by mark (object_at tables n)))) stand in
       let is = straight tables l for value None (due_by mark (object_at tables n)) (late tables (marked_if_any tables site (assign_kind mark)) _ here.1) (only_part (tree value) _ plain (omega arith)) in
       let assigned = assigned_is n here.0 site value is.is mark (early tables (marked_if_any tables site (assign_kind mark)) _ here.1) in
       record { is = and_from _ _ here.0 assigned; light = omega (arith, assigned_weighs n mark (site_at site) value, is.light) }
-  simple (Step (Variable n) up width site) stand plain uses =
+  simple (Step (Variable n) up width site) stand plain =
       let here = written_there n width (marked tables site (step_kind up) ∷ []) stand in
       let assigned = assigned_is n here.0 (Some site) (Constant (pos 1)) refl (step_mark up) (subst (λ things. Stand tables things) (stepped up site) here.1) in
       record { is = and_from _ _ here.0 assigned; light = omega (arith, assigned_weighs n (step_mark up) site (Constant (pos 1))) }
-  simple (WriteFlag value) stand plain uses = let is = straight tables l for value None (Some W32) stand (only_part (tree value) _ plain (omega arith)) in record { is = is.is; light = omega (arith, is.light) }
-  simple (Out value) stand plain uses =
+  simple (WriteFlag value) stand plain = let is = straight tables l for value None (Some W32) stand (only_part (tree value) _ plain (omega arith)) in record { is = is.is; light = omega (arith, is.light) }
+  simple (Out value) stand plain =
       let is = straight tables l for value (Some (taken_at tables SampleOut 0)) (due_of (taken_at tables SampleOut 0)) stand.1 (only_part (tree value) _ plain (omega arith)) in
       record { is = is.is; light = omega (arith, is.light) }
-  simple (AddCount weight) stand plain uses = record { is = refl; light = counting_is_light weight _ stand }
+  simple (AddCount weight) stand plain = record { is = refl; light = counting_is_light weight _ stand }
+  simple (Operate site kind operands weight) stand plain = let is = site_anywhere tables l for Acting site kind operands weight stand plain in record { is = is.is; light = is.light }
   -- what gives a value that nothing takes
-  simple (Operate site kind operands weight) stand plain uses = never uses
-  simple (Binary mark one other) stand plain uses = absurd (placed tables (is_none (binary_kind mark)) _ stand).1.0
-  simple (If cond this other) stand plain uses = absurd (placed tables (nat_le (count_in other) 1) _ stand).1.0
-  simple (Return value) stand plain uses = absurd (placed tables (nat_le (count_in value) 1) _ stand).1.0
+  simple (Binary mark one other) stand plain = absurd (placed tables (is_none (binary_kind mark)) _ stand).1.0
+  simple (If cond this other) stand plain = absurd (placed tables (nat_le (count_in other) 1) _ stand).1.0
+  simple (Return value) stand plain = absurd (placed tables (nat_le (count_in value) 1) _ stand).1.0
   -- what is not over scalars
-  simple (Write target mark width site value) stand plain uses = never plain.formed
-  simple (Step target up width site) stand plain uses = never plain.formed
-  simple (Call function args) stand plain uses = never plain.formed
-  simple Left stand plain uses = never plain.formed
-  simple e stand plain uses = absurd stand.0
+  simple (Write target mark width site value) stand plain = never plain.formed
+  simple (Step target up width site) stand plain = never plain.formed
+  simple (Call function args) stand plain = never plain.formed
+  simple Left stand plain = never plain.formed
+  simple e stand plain = absurd stand.0

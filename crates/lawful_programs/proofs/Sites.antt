@@ -20,13 +20,13 @@ use Rattle.c_typed.specs.declared.typed.Typed.{Typed}
 use Rattle.ir_arena.specs.Costs.{words_of_site}
 use Rattle.ir_arena.specs.Tree.{IrTrees, Operate, end, more}
 use Rattle.lawful_sources.specs.Things.{Taken, Call, Mark, due_of, taken_at}
-use Rattle.lawful_ir.specs.Positions.{Of, Valued, plainly}
-use Rattle.lawful_ir.specs.Walk.{each_stands, marked, numbers_stand, one_operand, operand_position, operated, stands, two_operands}
+use Rattle.lawful_ir.specs.Positions.{Of, Position, Valued, needs, plainly}
+use Rattle.lawful_ir.specs.Walk.{computed, each_stands, marked, numbers_stand, one_operand, operand_position, stands, two_operands}
 use Rattle.lawful_ir.proofs.Alike.{never}
 use Rattle.code_stacks.specs.Places.{Layout}
 use Rattle.expression_code.specs.Code.{own_weight}
 use Rattle.expression_code.specs.Straight.{are_straight, count_in, is_numbered, is_site, is_straight, is_wordless}
-use Rattle.lawful_programs.proofs.Standing.{Fits, Stand, both, early, late, placed, within, site_there}
+use Rattle.lawful_programs.proofs.Standing.{Fits, Stand, both, early, in_call, in_number, late, placed, site_there}
 
 -- an operator weighs less than its words may be
 weighs_little : (op : Op) → first_weight (counted.Call op) ≤ 128
@@ -61,21 +61,21 @@ module _ (tables : Typed) (l : Layout) (few : length tables.sites ≤ TOKENS) (w
     pub is : are_straight l operands ≡ true → is_straight l (Operate site kind operands weight) ≡ true
     pub light : own_weight kind weight ≤ words_of_site kind
 
-  module _ (passed : Option (Option Taken)) (due : Option Width) (site weight : ℕ) where
+  module _ (position : Position) (site weight : ℕ) where
     abbrev Plainly : (count : ℕ) → SiteKind → IrTrees → Type 0
     Plainly count kind operands = ((count_in operands == count) ≡ true) × (is_numbered l site kind ≡ true) × Stand tables (each_stands tables operands (λ place. plainly) 0)
 
-    one_there : (kind : SiteKind) (operands : IrTrees) → Stand tables (one_operand tables (Valued passed due) site kind weight (numbers_stand tables operands)) → Plainly 1 kind operands
+    one_there : (kind : SiteKind) (operands : IrTrees) → Stand tables (one_operand tables position site kind weight (numbers_stand tables operands)) → Plainly 1 kind operands
     one_there kind (more part end) stand =
-        let here = within tables passed due None (marked tables site kind ∷ stands tables part plainly) (placed tables (weight == 0) _ stand).1 in
+        let here = in_number tables position (marked tables site kind ∷ stands tables part plainly) (placed tables (weight == 0) _ stand).1 in
         (refl, numbered _ site kind here.0, both tables (stands tables part plainly) [] here.1 tt)
     one_there kind operands stand = absurd stand.0
 
-    two_there : (kind : SiteKind) (operands : IrTrees) → Stand tables (two_operands tables (Valued passed due) site kind weight (numbers_stand tables operands)) → Plainly 2 kind operands
+    two_there : (kind : SiteKind) (operands : IrTrees) → Stand tables (two_operands tables position site kind weight (numbers_stand tables operands)) → Plainly 2 kind operands
     two_there kind (more first (more second end)) stand =
         let left = stands tables first plainly in
         let right = stands tables second plainly in
-        let here = within tables passed due None (left ++ (marked tables site kind ∷ right)) (placed tables (weight == 0) _ stand).1 in
+        let here = in_number tables position (left ++ (marked tables site kind ∷ right)) (placed tables (weight == 0) _ stand).1 in
         let after = late tables left (marked tables site kind ∷ right) here in
         (refl, numbered _ site kind after.0, both tables left (right ++ []) (early tables left (marked tables site kind ∷ right) here) (both tables right [] after.1 tt))
     two_there kind operands stand = absurd stand.0
@@ -87,11 +87,11 @@ module _ (tables : Typed) (l : Layout) (few : length tables.sites ≤ TOKENS) (w
         record { passed = λ place. None; due = λ place. None; stand = there.2; is = λ straight. is (and_from _ _ (and_from (count_in operands == count) (is_numbered l site kind) there.0 there.1) straight); light = light }
 
     pub site_is : (kind : SiteKind) (operands : IrTrees) → is_site kind ≡ true
-        → Stand tables (operated tables (Valued passed due) site kind weight (numbers_stand tables operands) (each_stands tables operands (operand_position tables kind) 0)) → IsSite site kind operands weight
+        → Stand tables (computed tables position site kind weight (numbers_stand tables operands) (each_stands tables operands (operand_position tables kind) 0)) → IsSite site kind operands weight
     site_is (kinds.Call op) operands form stand =
         let things = marked tables site (kinds.Call op) ∷ each_stands tables operands (operand_position tables (kinds.Call op)) 0 in
         let call = placed tables (weight == first_weight (counted.Call op)) _ stand in
-        let here = within tables passed due None (Of (Call (Operator op) (length (numbers_stand tables operands)) true) ∷ things) call.1 in
+        let here = in_call tables position (Of (Call (Operator op) (length (numbers_stand tables operands)) (needs position)) ∷ things) call.1 in
         let count : (count_in operands == arity_of op) ≡ true = ap (λ n. n == arity_of op) (sym (counted_alike operands)) ∙ here.0.counts in
         record {
           passed = λ place. Some (taken_at tables (Operator op) place);

@@ -10,7 +10,7 @@ use Rattle.c_typed.specs.declared.typed.Typed.{Typed}
 use Rattle.lawful_sources.specs.Objects.{begins_well}
 use Rattle.lawful_sources.specs.Rows.{arguments_are_counted, place_fits, return_fits, value_is_given, HasKind, IsOfKind}
 use Rattle.lawful_sources.specs.Things.{Taken, Thing, Mark}
-use Rattle.lawful_ir.specs.Positions.{TreeThing, Of, Misplaced, Valued, before, placed_if, turned, valued}
+use Rattle.lawful_ir.specs.Positions.{TreeThing, Of, Misplaced, Position, Acting, Stating, Valued, around, before, placed_if, turned, valued}
 
 module _ (tables : Typed) where
   pub record Fits (thing : Thing) : Type 0 where
@@ -47,6 +47,17 @@ module _ (tables : Typed) where
   -- in what gives a number
   pub within : (passed : Option (Option Taken)) (due is : Option Width) (things : List TreeThing) → Stand (valued (Valued passed due) is things) → Stand things
   within passed due is things stand = late (turned is due) things (late (before passed) (turned is due ++ things) stand)
+
+  pub in_number : (position : Position) (things : List TreeThing) → Stand (valued position None things) → Stand things
+  in_number (Valued passed due) things stand = within passed due None things stand
+  in_number position things stand = absurd stand.0
+
+  -- in a call, whose value may be dropped
+  pub in_call : (position : Position) (things : List TreeThing) → Stand (around position things) → Stand things
+  in_call (Valued passed due) things stand = within passed due None things stand
+  in_call Acting things stand = stand
+  in_call (Stating spot) things stand = stand.1
+  in_call position things stand = absurd stand.0
 
   -- ---- sites
 

@@ -1,6 +1,6 @@
 -- A lawful tree over scalars is a program.
 use Rattle.std.proofs.Common.{◌≡◌, ℕ, zero, suc, ◌+◌, ◌≤◌, Bool, true, false, not, List, [], ◌∷◌, length, map, refl, ap, ◌∙◌, subst, arith}
-use Rattle.std.specs.Prelude.{◌==◌, ◌&&◌, ◌||◌, nat_le, flat_map, slice_get, Option, Some, None, is_none, is_some}
+use Rattle.std.specs.Prelude.{◌==◌, ◌||◌, nat_le, flat_map, slice_get, Option, Some, None, is_none, is_some}
 use Rattle.std.specs.List.{All, AllByRecursion, list_all, list_any}
 use Rattle.std.proofs.lemmas.List.Elements.{All-from_recursion, recursion_from_All}
 use Rattle.std.proofs.lemmas.Option.{none-some, same_Some}
@@ -24,14 +24,14 @@ use Rattle.lawful_ir.specs.Walk.{count_in, function_stands, stands}
 use Rattle.lawful_ir.proofs.Alike.{left, right, never}
 use Rattle.code_stacks.specs.Places.{Layout}
 use Rattle.program_code.specs.Laws.{IsProgram}
-use Rattle.lawful_programs.specs.Form.{function_has_numbers, has_numbers, has_scalar_body, has_scalar_form, is_plain_scalar, is_scalar_tree, uses_values, whole_has_numbers}
+use Rattle.lawful_programs.specs.Form.{function_has_numbers, has_numbers, has_scalar_body, has_scalar_form, is_plain_scalar, is_scalar_tree, whole_has_numbers}
 use Rattle.lawful_programs.specs.Heights.{height_of_statement}
 use Rattle.lawful_programs.specs.Laws.{IsLayoutOf, ScalarTreesArePrograms}
 use Rattle.lawful_programs.proofs.Expressions.{IsFor}
 use Rattle.lawful_programs.proofs.Plain.{IsPlain}
 use Rattle.lawful_programs.proofs.Standing.{Fits, Stand, early}
 use Rattle.lawful_programs.proofs.Starts.{never_if, same_number}
-use Rattle.lawful_programs.proofs.Statements.{IsDone, statement}
+use Rattle.lawful_programs.proofs.Statements.{IsDone, operator, statement}
 
 -- ---- tests that all pass
 
@@ -79,14 +79,14 @@ module _ (tables : Typed) (l : Layout) (for : IsFor tables l) (room : 1 ≤ l.de
   statement_fits = record { reaches = refl; counts = refl; gives = refl; begins = refl; returns = refl; is_of_kind = tt }
 
   -- it is a block
-  body_done : (e : IrTree) (spot : Spot) → Stand tables (stands tables e (Body spot)) → IsPlain e → uses_values e ≡ true → height_of_statement e ≤ l.depth → IsDone tables l for (is_some spot.gives) e
-  body_done (Block first count starts parts) spot stand plain uses high = statement tables l for room (Block first count starts parts) spot (statement_fits, stand) plain uses high
-  body_done (Operate site kind operands weight) spot stand plain uses high = never uses
-  body_done (Binary mark one other) spot stand plain uses high = absurd (never_if tables l for (is_none (binary_kind mark)) stand)
-  body_done (AddCount weight) spot stand plain uses high = absurd (never_if tables l for _ stand)
-  body_done (If cond this other) spot stand plain uses high = absurd (never_if tables l for (nat_le (count_in other) 1) stand)
-  body_done (Return value) spot stand plain uses high = absurd (never_if tables l for (nat_le (count_in value) 1) stand)
-  body_done e spot stand plain uses high = absurd stand.0
+  body_done : (e : IrTree) (spot : Spot) → Stand tables (stands tables e (Body spot)) → IsPlain e → height_of_statement e ≤ l.depth → IsDone tables l for (is_some spot.gives) e
+  body_done (Block first count starts parts) spot stand plain high = statement tables l for room (Block first count starts parts) spot (statement_fits, stand) plain high
+  body_done (Operate site kind operands weight) spot stand plain high = operator tables l for (Body spot) site kind operands weight stand plain high
+  body_done (Binary mark one other) spot stand plain high = absurd (never_if tables l for (is_none (binary_kind mark)) stand)
+  body_done (AddCount weight) spot stand plain high = absurd (never_if tables l for _ stand)
+  body_done (If cond this other) spot stand plain high = absurd (never_if tables l for (nat_le (count_in other) 1) stand)
+  body_done (Return value) spot stand plain high = absurd (never_if tables l for (nat_le (count_in value) 1) stand)
+  body_done e spot stand plain high = absurd stand.0
 
 -- ---- the main function
 
@@ -133,7 +133,7 @@ module _ (ir : Ir) (l : Layout) (lawful : IsLawfulTree ir) (form : has_scalar_fo
   own_is : slice_get (whole_of ir).functions (whole_of ir).main ≡ Some own
   own_is = ap (λ functions. slice_get (map function_of functions) ir.main) main.only ∙ ap (λ n. slice_get (own ∷ []) n) main.first
 
-  own_form : (is_scalar_tree own.body && uses_values own.body) ≡ true
+  own_form : is_scalar_tree own.body ≡ true
   own_form = subst (λ functions. has_scalar_body (map function_of functions) ≡ true) main.only (right (list_all is_plain_scalar ir.objects) (has_scalar_body (whole_of ir).functions) form)
 
   own_numbers : has_numbers own.body ≡ true
@@ -155,7 +155,7 @@ module _ (ir : Ir) (l : Layout) (lawful : IsLawfulTree ir) (form : has_scalar_fo
   done : IsDone (tables_of ir) l fits (is_some own.gives) own.body
   done =
       body_done (tables_of ir) l fits layout.room own.body (record { in_loop = false; gives = own.gives }) own_stands
-      (record { formed = left (is_scalar_tree own.body) (uses_values own.body) own_form; small = own_numbers; cheap = own_cost }) (right (is_scalar_tree own.body) (uses_values own.body) own_form) (layout.high own own_is)
+      (record { formed = own_form; small = own_numbers; cheap = own_cost }) (layout.high own own_is)
 
   program_is : IsProgram (whole_of ir) l own
   program_is = record {

@@ -43,21 +43,6 @@ abbrev mutual
   are_scalar_trees end = true
   are_scalar_trees (more first rest) = is_scalar_tree first && are_scalar_trees rest
 
--- ---- values that are used
-
-abbrev mutual
-  -- no operator stands as a statement or in the head of a loop, where nothing takes what it gives
-  pub uses_values : IrTree → Bool
-  uses_values (Operate site kind operands weight) = false
-  uses_values (Block first count starts parts) = use_values parts
-  uses_values (If cond this other) = uses_values this && use_values other
-  uses_values (Loop cut tests_first first cond last body) = use_values first && (use_values last && uses_values body)
-  uses_values tree = true
-
-  pub use_values : IrTrees → Bool
-  use_values end = true
-  use_values (more first rest) = uses_values first && use_values rest
-
 -- ---- the whole
 
 -- no array, no view, and no `&` is applied to it
@@ -66,7 +51,7 @@ is_plain_scalar object = is_scalar object && not object.exposed
 
 -- the only function is `main`
 abbrev pub has_scalar_body : List TreeFunction → Bool
-has_scalar_body (main ∷ []) = is_scalar_tree main.body && uses_values main.body
+has_scalar_body (main ∷ []) = is_scalar_tree main.body
 has_scalar_body functions = false
 
 abbrev pub has_scalar_form : IrWhole → Bool

@@ -17,8 +17,8 @@ use Rattle.source_runs.specs.State.{Kept, SourceState, converted, written, locat
 use Rattle.source_runs.specs.declared.location.Access.TheVariants.{Element}
 use Rattle.typed_meaning.specs.Expressions.{Setting, Called, site_at}
 use Rattle.typed_meaning.specs.Statements.{assignment_meaning, step_mark}
-use Rattle.ir_arena.specs.Tree.{IrTree, Constant, Write, Step, WriteFlag, Out, AddCount, Variable}
-use Rattle.tree_meaning.specs.Parts.{operate_meaning}
+use Rattle.ir_arena.specs.Tree.{IrTree, Constant, Operate, Write, Step, WriteFlag, Out, AddCount, Variable}
+use Rattle.tree_meaning.specs.Parts.{operate_meaning, value_unused}
 use Rattle.tree_meaning.specs.Trees.{node_meaning, value_meaning, target_meaning}
 use Rattle.code_lines.specs.declared.word.Word.{Word}
 use Rattle.code_lines.specs.Words.{StandHere, Code, instr_of}
@@ -110,6 +110,18 @@ module _ (code : Code) (turns : ℕ) (l : Layout) (laid : IsLaidOut code l) (her
         in_turn code turns (At k lag) (value_meaning here called value) (Valued here.objects l (k + length xs) (lag + weight_of value) [] value) next after
         (expression_does code turns l laid here called scalars value k lag [] straight (omega arith) (first_stands code k xs rest stands))
         (λ x s m valued. finishes x s m (second_stands code k xs rest stands) valued)
+
+    -- ---- values that are not used
+
+    dropped_does : (k lag : ℕ) → StandHere code k (value_code value)
+        → Does code turns (At k lag) (value_unused (value_meaning here called value)) (λ done. At (k + length (value_code value)) (lag + weight_of value))
+    unfolding ◌>>◌
+    dropped_does k lag stands =
+        let place = k + length (value_code value) in
+        let late = lag + weight_of value in
+        in_turn code turns (At k lag) (value_meaning here called value) (Valued here.objects l place late [] value) (λ x. gives tt) (λ done. At place late)
+        (expression_does code turns l laid here called scalars value k lag [] straight (omega arith) stands)
+        (λ x s m valued. (m, passes_still code s.sites (Running m), bare place late s m valued.0.before valued.0.agrees))
 
     -- ---- Overflow
 
@@ -274,4 +286,5 @@ module _ (code : Code) (turns : ℕ) (l : Layout) (laid : IsLaidOut code l) (her
   simple_does (WriteFlag value) = λ k lag simple room stands. flag_does value simple room k lag stands
   simple_does (Out value) = λ k lag simple room stands. out_does value simple room k lag stands
   simple_does (AddCount weight) = λ k lag simple room stands. count_does weight k lag
+  simple_does (Operate site kind operands weight) = λ k lag simple room stands. dropped_does (Operate site kind operands weight) simple room k lag stands
   simple_does part = never part refl

@@ -1,5 +1,5 @@
--- The code of assignments to scalars and to Overflow, of steps, of samples that are written, and of counting
--- calls.
+-- The code of assignments to scalars and to Overflow, of steps, of samples that are written, of counting calls, and of
+-- operators whose value is not used.
 use Rattle.std.specs.Prelude.{ℕ, pos, Bool, true, false, ◌&&◌, List, [], ◌∷◌, ◌++◌, Option}
 use Rattle.c_tree.specs.declared.expression.BinaryMark.TheVariants as binary
 use Rattle.c_tree.specs.declared.simple.AssignMark.{AssignMark}
@@ -56,6 +56,8 @@ module _ (objects : List Object) (l : Layout) where
   simple_code (Step target up width site) = assigned_code target (stepped_by target up site)
   simple_code (WriteFlag value) = expression_code objects l value 0 ++ Addi 27 value_register (pos 0) ∷ []
   simple_code (Out value) = expression_code objects l value 0 ++ (out_line ++ Ecall ∷ [])
+  -- its value stays where the next one goes
+  simple_code (Operate site kind operands weight) = expression_code objects l (Operate site kind operands weight) 0
   simple_code tree = []
 
 -- ---- those that have such code
@@ -70,6 +72,7 @@ is_simple l (Step target up width site) = is_target l target && is_straight l (s
 is_simple l (WriteFlag value) = is_straight l value
 is_simple l (Out value) = is_straight l value
 is_simple l (AddCount weight) = true
+is_simple l (Operate site kind operands weight) = is_straight l (Operate site kind operands weight)
 is_simple l tree = false
 
 -- the weight by which the count lags behind
@@ -79,6 +82,7 @@ weight_of_simple (Step target up width site) = weight_of (stepped_by target up s
 weight_of_simple (WriteFlag value) = weight_of value
 weight_of_simple (Out value) = weight_of value
 weight_of_simple (AddCount weight) = weight
+weight_of_simple (Operate site kind operands weight) = weight_of (Operate site kind operands weight)
 weight_of_simple tree = 0
 
 -- the places of the stack that it takes at once
@@ -87,4 +91,5 @@ height_of_simple (Write target mark width site value) = height_of (written_by ta
 height_of_simple (Step target up width site) = height_of (stepped_by target up site)
 height_of_simple (WriteFlag value) = height_of value
 height_of_simple (Out value) = height_of value
+height_of_simple (Operate site kind operands weight) = height_of (Operate site kind operands weight)
 height_of_simple tree = 0

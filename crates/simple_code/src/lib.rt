@@ -1,5 +1,5 @@
-// The code of assignments to scalars and to Overflow, of steps, of objects that start, of samples that are written and of
-// counting calls, and that it does what they do: laws alone.
+// The code of assignments to scalars and to Overflow, of steps, of objects that start, of samples that are written, of
+// counting calls and of operators whose value is not used, and that it does what they do: laws alone.
 #![tactic(auto)]
 
 mod laws;

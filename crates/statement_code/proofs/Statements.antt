@@ -177,6 +177,7 @@ module _ (code : Code) (l : Layout) (laid : IsLaidOut code l) (here : Setting) (
     statement_done (tree.WriteFlag value) is = part_done (tree.WriteFlag value) is
     statement_done (tree.Out value) is = part_done (tree.Out value) is
     statement_done (tree.AddCount weight) is = part_done (tree.AddCount weight) is
+    statement_done (tree.Operate site kind operands weight) is = part_done (tree.Operate site kind operands weight) is
     statement_done part is = never part refl is
 
     statements_done : (parts : IrTrees) → AreStatements here.objects l has_result parts → AllDone parts
